@@ -136,6 +136,60 @@ def sums_of_one_hash():
     return text(FOUR), named + text(clauses) + deletions(clauses) + text([[1]])
 
 
+def mixed(number):
+    spread = (number + 1) * 0x9E3779B97F4A7C15 % 2**64
+    return (spread ^ spread >> 29) * 0xBF58476D1CE4E5B9 % 2**64
+
+
+def one_bucket(variables=60_000, bits=17):
+    """Some 14,000 clauses of two literals that fall into one bucket, of sums of mixed literals without a seed."""
+    values = {it: mixed(2 * (it - 1)) for it in range(1, variables + 1)}
+    places = {}
+    for name, value in values.items():
+        places.setdefault((value >> 32) % 2**bits, []).append(name)
+    clauses = []
+    for name, value in values.items():
+        for carry in (0, 1):
+            for other in places.get((-(value >> 32) - carry) % 2**bits, ()):
+                if name < other and ((value + values[other]) % 2**64 >> 32) % 2**bits == 0:
+                    clauses.append([name, other])
+    return text(FOUR), text([range(1, variables + 1)]) + text(clauses) + deletions(clauses) + text([[1]])
+
+
+def false_in_turn(count):
+    """A clause whose literals become false one by one."""
+    names = range(3, count + 3)
+    return text([*FOUR, names]), text([[-it] for it in names[:-1]] + [[1]])
+
+
+def false_in_turn_160000():
+    return false_in_turn(160_000)
+
+
+def false_in_turn_320000():
+    return false_in_turn(320_000)
+
+
+def one_pivot(count):
+    """Needed clauses that are redundant by one variable, after as many with its negation, which are deleted."""
+    x, q, r, t, m, p = range(1, 7)
+    firsts, seconds, links = (range(7 + place * count, 7 + (place + 1) * count) for place in range(3))
+    formula = [[q, r], [q, -r], [-q, t], [-q, -t], [m, p], [m, -p], *([-m, -second] for second in seconds)]
+    formula += [[-firsts[0], links[0]], *([-links[it - 1], -firsts[it], links[it]] for it in range(1, count)), [-links[-1]]]
+    idle = [[-x, q, first] for first in firsts]
+    # m follows after them, so that the check of one forces nothing by the others
+    needed = [[x, *pair] for pair in zip(firsts, seconds)]
+    return text(formula), text(idle) + deletions(idle) + text([[-x, q], *needed, [m], [x]])
+
+
+def one_pivot_20000():
+    return one_pivot(20_000)
+
+
+def one_pivot_40000():
+    return one_pivot(40_000)
+
+
 def long_trail():
     """10,000 clauses that are checked while 1,000,000 variables have values."""
     units = [[it] for it in range(1, 1_000_001)]
@@ -182,6 +236,11 @@ CASES = {
         one_literal_200000,
         one_literal_at_random,
         sums_of_one_hash,
+        one_bucket,
+        false_in_turn_160000,
+        false_in_turn_320000,
+        one_pivot_20000,
+        one_pivot_40000,
         long_trail,
         chain_25000,
         chain_50000,

@@ -71,7 +71,7 @@ kept() {
 alone() {
   local file
   for file in "${@:2}"; do
-    [[ ! -e $file.new ]] || fault "$1: $file.new is left"
+    [[ -z $(compgen -G "$file.*.new") ]] || fault "$1: $(compgen -G "$file.*.new") is left"
   done
 }
 
@@ -85,12 +85,15 @@ counts() {
   awk '
     $2 != "d" {
       lemmas++
-      redundant = 0
+      redundant = given = 0
       for (i = 2; $i != "0"; i++);
       for (i++; $i != "0"; i++) {
         hints++
         if ($i < 0) redundant = 1
+        given = 1
       }
+      # without hints nothing follows: no clause has the negation of the first literal
+      if (!given) redundant = 1
       all_redundant += redundant
     }
     END { printf "c lemmas %d\nc rat_lemmas %d\nc hints %d\n", lemmas, all_redundant, hints }
@@ -175,15 +178,27 @@ binary_lines 'pair_exchanges 4' pairs.cnf pairs.dpr
 printf 'o 1 1 2 0\no 2 1 -2 0\no 3 -1 2 0\no 4 -1 -2 0\na 6 1 0\nd 1 1 2 0\na 7 0\n' > four.frat
 outputs 'four as FRAT' f four.frat
 
-# what is written has its name once it is whole: a run that is killed leaves what stood there, and the next one takes away what the
-# killed one left; here nothing is written yet
+# what is written has its name once it is whole: a run that is killed leaves what stood there, and beside it what it wrote, which
+# nobody takes away; here nothing is written yet
+mkfifo hold
+exec 6<> hold
 for signal in INT KILL; do
   keep l c
-  timeout -s "$signal" 0.5 "$check" f - --lrat l --core c < <(sleep 1) > out 2> err || true
+  rm -f l.*.new c.*.new
+  # in the background a shell has a program ignore INT
+  env --default-signal=INT "$check" f - --lrat l --core c < hold > out 2> err &
+  run=$!
+  for ((tries = 0; tries < 200; tries++)); do
+    [[ ! -e l.$run.new || ! -e c.$run.new ]] || break
+    sleep 0.05
+  done
+  kill -s "$signal" "$run"
+  wait "$run" 2> said || true
   kept "$signal" l c
-  [[ -f l.new && -f c.new && ! -s out ]] || fault "$signal: no run was killed"
+  left=$(compgen -G '[lc].*.new' | sort) || true
+  [[ $left == c.*.new*l.*.new && ! -s out ]] || fault "$signal: no run was killed"
   wants 0 's VERIFIED UNSAT' '' f p --lrat l --core c
-  alone "after $signal" l c
+  [[ $(compgen -G '[lc].*.new' | sort) == "$left" ]] || fault "after $signal: $(compgen -G '[lc].*.new') in place of $left"
   [[ $("$lrat_check" f l) == 's VERIFIED UNSAT' ]] || fault "the lines after $signal"
 done
 # here the lines are written in part, and here whole, and the clauses in part: a file may not be longer, and a pipe is full. Each
@@ -194,25 +209,23 @@ keep l c
 (ulimit -c 0 -f 16 && exec "$check" chain.cnf end --lrat l --core c) > out 2> err || true
 kept 'cut off' l c
 [[ ! -s out ]] || fault 'a verdict beside lines that are cut off'
-rm -f l.new c.new
-mkfifo hold
-exec 6<> hold
+rm -f l.*.new c.*.new
 for signal in INT KILL; do
   keep l
-  rm -f l.new
-  # in the background a shell has a program ignore INT
+  rm -f l.*.new
   env --default-signal=INT "$check" chain.cnf end --lrat l --core hold > out 2> err &
   run=$!
   for ((tries = 0; tries < 200; tries++)); do
-    [[ ! -s l.new || $(tail -n 1 l.new) != *' 0' ]] || break
+    [[ ! -s l.$run.new || $(tail -n 1 "l.$run.new") != *' 0' ]] || break
     sleep 0.05
   done
   kill -s "$signal" "$run"
   wait "$run" 2> said || true
   kept "$signal at the core" l
-  [[ $("$lrat_check" chain.cnf l.new) == 's VERIFIED UNSAT' && ! -s out ]] || fault "$signal: the run was not killed at the core"
+  [[ $("$lrat_check" chain.cnf "l.$run.new") == 's VERIFIED UNSAT' && ! -s out ]] || fault "$signal: the run was not killed at the core"
 done
 exec 6>&-
+rm -f l.*.new
 "$check" chain.cnf end --lrat l > out
 [[ $("$lrat_check" chain.cnf l) == 's VERIFIED UNSAT' ]] || fault 'the lines of the chain'
 alone 'the chain' l
@@ -227,23 +240,41 @@ wants 0 's VERIFIED UNSAT' '' f p --lrat l
 alone 'a link' l real
 rm l
 
-# of two runs that write one name at once, that which comes later has no verdict
+# two runs that write one name at once have a file each, and the name is that of the later one
+printf '2 0\n0\n' > other.p
+"$check" f other.p --lrat other.l > out
 mkfifo slow
 "$check" f slow --lrat l > out.slow 2> err.slow &
 run=$!
 exec 7> slow
 for ((tries = 0; tries < 200; tries++)); do
-  [[ ! -e l.new ]] || break
+  [[ -z $(compgen -G 'l.*.new') ]] || break
   sleep 0.05
 done
-sleep 0.2
+sleep 0.5
 wants 0 's VERIFIED UNSAT' '' f p --lrat l
-cat p >&7
+[[ $("$lrat_check" f l) == 's VERIFIED UNSAT' ]] && ! cmp -s l other.l || fault 'the lines of the first of two runs at once'
+cat other.p >&7
 exec 7>&-
 status=0
 wait "$run" || status=$?
-[[ $status == 1 && ! -s out.slow && $(head -n 1 err.slow) == 'cannot rename l.new as l' ]] || fault "two runs at once: status $status, $(cat out.slow err.slow)"
-[[ $("$lrat_check" f l) == 's VERIFIED UNSAT' ]] || fault 'the lines of two runs at once'
+[[ $status == 0 && $(cat out.slow) == 's VERIFIED UNSAT' && ! -s err.slow ]] || fault "two runs at once: status $status, $(cat out.slow err.slow)"
+cmp -s l other.l || fault 'the lines of the second of two runs at once'
+alone 'two runs at once' l
+
+# a file that is not of this run stays, also one of the name that the run would take first
+# numbered ARGUMENT..: such a file is there, and the program has the number in its name
+numbered() {
+  printf kept > "l.$BASHPID.new"
+  exec "$check" "$@"
+}
+for proof in p malformed.p; do
+  printf '1 x 0\n' > malformed.p
+  keep l.new
+  (numbered f "$proof" --lrat l) > out 2> err || true
+  kept "a stranger's file" l.new l.*.new
+  rm l.*.new l.new
+done
 
 # a beginning of the lines is no proof, and one of the clauses is not what its header says
 "$check" f p --lrat l --core c > out
@@ -254,10 +285,11 @@ said=$("$lrat_check" f begun.lines) || true
 "$check" begun.clauses p > out 2> err || true
 grep -q '^warning: the header of begun.clauses is ' err || fault "a beginning of the clauses: $(cat out err)"
 
-# nothing is written where the proof shows nothing, or is refused before a line is made; then what stood there stays
+# where the proof shows nothing, what stood there is replaced by nothing; where it is refused, it stays
 printf '1 x 0\n' > malformed
 printf 'd 1 2 0\n1 0\n' > unfounded
 printf '' > open
+keep l c
 wants 3 's NOT VERIFIED' '' f open --lrat l --core c
 empty l c
 keep l c
@@ -266,7 +298,7 @@ kept malformed l c
 wants 1 '' $'proof: step 2: clause neither follows nor is redundant by its first literal\nin unfounded' \
   f unfounded --core c --lrat l
 kept unfounded l c
-wants 1 '' $'formula: line 1: bad number\nin malformed' malformed p --lrat l --core c
+wants 1 '' $'formula: line 1: bad number\nin malformed\nbad number: x' malformed p --lrat l --core c
 kept 'no formula' l c
 alone 'no verdict' l c
 
@@ -289,14 +321,26 @@ for output in same ./same other; do
   [[ $(cat same) == kept ]] || fault "one file is emptied: $output"
 done
 wants 2 '' $'cannot open ./new\nboth outputs are one file' f p --lrat new --core ./new
-wants 2 '' $'cannot open same.new\nboth outputs are one file' f p --lrat same --core same.new
-wants 2 '' $'cannot open same\nboth outputs are one file' f p --lrat same.new --core same
-cp p same.new
-wants 2 '' $'cannot open same.new\nthe output is a file that is read' f same.new --lrat same
 kept 'names in conflict' same
+cp p same.new
+wants 0 's VERIFIED UNSAT' '' f same.new --lrat same
 cmp -s p same.new || fault 'a proof is taken away'
-alone 'outputs that are refused' l same.new new
-rm same.new
+wants 0 's VERIFIED UNSAT' '' f p --lrat same --core same.new
+[[ $("$lrat_check" f same) == 's VERIFIED UNSAT' && $("$check" same.new p) == 's VERIFIED UNSAT' ]] || fault 'the names same and same.new'
+alone 'outputs that are refused' l same same.new new
+# a name that is empty, and links that lead to nothing: nothing is read, made or taken away
+keep .new
+ln -s nowhere dangling
+ln -s itself itself
+for option in --lrat --trim --core; do
+  wants 2 '' $'cannot open \nthe name of an output is empty' f p "$option" ''
+  wants 2 '' $'cannot open \nthe name of an output is empty' f p "$option="
+  for output in dangling itself; do
+    wants 2 '' "cannot open $output"$'\nthe output is a link that leads to nothing' f p "$option" "$output"
+  done
+done
+kept 'a name that is empty' .new
+[[ -L dangling && -L itself && ! -e nowhere && -z $(compgen -G '*.*.new') ]] || fault "links to nothing: $(ls -A)"
 wants 2 '' $'cannot open /dev/null\nboth outputs are one file' f p --lrat /dev/null --core /dev/null
 wants 0 's VERIFIED UNSAT' '' f p --lrat /dev/null --core c
 
@@ -324,8 +368,8 @@ empty l
 wants 0 's VERIFIED UNSAT' '' f p --holds next --lrat l
 [[ $("$lrat_check" f l) == 's VERIFIED UNSAT' ]] || fault 'the lines of a piece with a conflict'
 keep l
-wants 1 '' $'wanted clauses: line 1: bad number\nin malformed' three piece --holds malformed --lrat l
-wants 1 '' $'formula: line 1: bad number\nin malformed' malformed piece --holds malformed --lrat l
+wants 1 '' $'wanted clauses: line 1: bad number\nin malformed\nbad number: x' three piece --holds malformed --lrat l
+wants 1 '' $'formula: line 1: bad number\nin malformed\nbad number: x' malformed piece --holds malformed --lrat l
 wants 1 '' $'proof: step 1: malformed\nin malformed' three malformed --holds next --lrat l
 kept 'a piece that is refused' l
 wants 2 '' $'cannot open nothing\nNo such file or directory (os error 2)' three piece --holds nothing --lrat l
@@ -334,6 +378,36 @@ for output in next soft.next; do
   wants 2 '' "cannot open $output"$'\nthe output is a file that is read' three piece --holds next --lrat "$output"
 done
 kept 'a piece that is not run' l
+# a clause that has an id is there as long as it lives: named by `o`, added, and gone by its id; a tautology is, and what is redundant beside it
+printf '1 2 0\n' > one
+printf 'p cnf 2 0\n' > none
+printf 'o 1 1 2 0\n' > named.frat
+printf 'o 1 1 2 0\na 2 1 3 0\n' > added.frat
+printf 'o 1 1 2 0\na 2 1 3 0\nd 2 1 3 0\n' > gone.frat
+printf '2 1 3 0 0\n' > added.lpr
+printf '2 1 3 0 0\n2 d 2 0\n' > gone.lpr
+printf '2 d 1 0\n' > deleted.lpr
+printf '1 2 -2 0\n-2 0\n' > tautology
+printf '1 -2 2 0\n1 2 0\n' > opposed
+printf -- '-2 0\n' > fresh
+printf '1 -2 2 0\n-2 0\n' > both
+printf '1 3 0\n' > third
+for arguments in 'one named.frat --holds one' 'one added.frat --holds third' 'one added.lpr --lpr --holds third' 'one added.lpr --lpr --holds one' \
+  'none tautology --holds tautology' 'opposed fresh --holds both'; do
+  # shellcheck disable=SC2086
+  wants 0 's VERIFIED PIECE' '' $arguments --lrat l
+  said=$("$lrat_check" "${arguments%% *}" l --holds "${arguments##* }" 2> err) || true
+  [[ $said == 's VERIFIED PIECE' ]] || fault "the lines of $arguments: $said $(cat err)"
+  # shellcheck disable=SC2086
+  wants 0 's VERIFIED PIECE' '' $arguments --core c
+done
+wants 3 's NOT VERIFIED' $'clause 1 is not there behind the piece: 1 3 0\nin third' one gone.frat --holds third
+wants 3 's NOT VERIFIED' $'clause 1 is not there behind the piece: 1 3 0\nin third' one gone.lpr --lpr --holds third
+wants 3 's NOT VERIFIED' $'clause 1 is not there behind the piece: 1 2 0\nin one' one deleted.lpr --lpr --holds one
+# a clause that is redundant without a group counts among those that are
+printf '3 -1 0\n' > new
+said=$("$check" one new --holds new --stats 2> err) || true
+[[ $said == 's VERIFIED PIECE' && $(head -n 4 err) == $'c steps 1\nc lemmas 1\nc rat_lemmas 1\nc hints 0' ]] || fault "a clause without a group: $said $(cat err)"
 wants 0 's VERIFIED PIECE' '' three piece --holds /dev/null --lrat /dev/null
 wants 1 '' $'error writing: No space left on device (os error 28)\nin /dev/full' three piece --holds next --lrat /dev/full
 # the core of a piece: the clauses of the formula that are enough, over which the piece is verified again; nothing where a clause is missing
@@ -349,7 +423,7 @@ empty c
 wants 0 's VERIFIED UNSAT' '' f p --holds next --core c
 [[ $("$check" c p) == 's VERIFIED UNSAT' ]] || fault 'the core of a piece with a conflict'
 keep c
-wants 1 '' $'wanted clauses: line 1: bad number\nin malformed' three piece --holds malformed --core c
+wants 1 '' $'wanted clauses: line 1: bad number\nin malformed\nbad number: x' three piece --holds malformed --core c
 wants 1 '' $'proof: step 1: malformed\nin malformed' three malformed --holds next --core c
 wants 2 '' $'cannot open next\nthe output is a file that is read' three piece --holds next --core next
 kept 'a piece that is refused' c
@@ -360,27 +434,27 @@ said=$("$check" three piece --holds next --stats 2> err) || true
 # calls that can't be read, and others of the same words
 while IFS=: read -r arguments why; do
   # shellcheck disable=SC2086
-  wants 2 '' "$why"$'\nusage: drat_check CNF PROOF [--drat] [--frat] [--lpr] [--lrat FILE] [--binary] [--trim FILE] [--core FILE] [--holds FILE] [--stats] [--quiet] [--verbose]\ndrat_check --help says more' $arguments
+  wants 2 '' "$why"$'\nusage: drat_check CNF PROOF [--drat] [--frat] [--lpr] [--lrat FILE] [--binary] [--trim FILE] [--core FILE] [--holds FILE] [--stats] [--json] [--quiet] [--verbose]\ndrat_check --help says more' $arguments
 done << 'END'
 :no file is named for CNF
 f:no file is named for PROOF
-f p --lrat:--lrat has no value
-f p --lrat l --core:--core has no value
-f p --lrat l --lrat c:--lrat stands twice
-f p --lrat=l --lrat c:--lrat stands twice
+f p --lrat:--lrat needs a value
+f p --lrat l --core:--core needs a value
+f p --lrat l --lrat c:--lrat given twice
+f p --lrat=l --lrat c:--lrat given twice
 f p --other l:there is no option --other
-f p --lrat l --core c d:a file too many: d
+f p --lrat l --core c d:unexpected argument: d
 f p --frat --drat:--drat, --frat and --lpr exclude each other
 f p --lpr --drat:--drat, --frat and --lpr exclude each other
-f p --quiet --verbose:--quiet and --verbose can't both stand
+f p --quiet --verbose:--quiet and --verbose exclude each other
 f p --drat=1:--drat takes no value
 f p --core c --binary:--binary says how --lrat is written
-f p --holds:--holds has no value
+f p --holds:--holds needs a value
 f p --trim l --holds three:--holds excludes --trim
 f p --holds three --core c --lrat l:with --holds, --lrat and --core exclude each other
 f p --holds three --core c --trim l:--holds excludes --trim
-f p --example:--example stands alone
---example --drat:--example stands alone
+f p --example:--example takes no other argument
+--example --drat:--example takes no other argument
 -- --drat:no file is named for PROOF
 END
 for arguments in '--lrat l --core c f p' '--lrat=l f --core=c p' 'f --drat p --core c --lrat l' '--core c --lrat l -- f p'; do

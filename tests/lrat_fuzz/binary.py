@@ -21,15 +21,15 @@ def signed(value):
     return written_number(2 * abs(value) + (value < 0))
 
 
-def written(lines, doubled):
-    """The lines as binary ones."""
+def written(lines, doubled, zero=b"\0"):
+    """The lines as binary ones. A 0 at the end of a list is spelled so."""
     parts = []
     for read in lines:
         if len(read) == 1:
-            parts += [b"d", *(written_number(number << doubled) for number in read[0]), b"\0"]
+            parts += [b"d", *(written_number(number << doubled) for number in read[0]), zero]
         else:
             name, clause, hints = read
-            parts += [b"a", written_number(name << doubled), *map(signed, clause), b"\0", *map(signed, hints), b"\0"]
+            parts += [b"a", written_number(name << doubled), *map(signed, clause), zero, *map(signed, hints), zero]
     return b"".join(parts)
 
 
@@ -109,6 +109,11 @@ def number_at(data, place):
     return data[place : end + 1]
 
 
+def is_number(spelled, value):
+    """Whether these bytes are a whole number, and this one, whatever zeros stand behind its highest bit."""
+    return spelled[-1:] < b"\x80" and spelled != b"" and sum((byte & 127) << 7 * place for place, byte in enumerate(spelled)) == value
+
+
 def are_doubled(data, clauses):
     """Whether every id among the first bytes is even, and no line has the next id after those of the formula."""
     data, place = data[:LOOKED_AT], 0
@@ -118,11 +123,11 @@ def are_doubled(data, clauses):
         if adds:
             number = number_at(data, place)
             place += len(number)
-            if number[:1] and number[0] % 2 or number == written_number(clauses + 1):
+            if number[:1] and number[0] % 2 or is_number(number, clauses + 1):
                 return False
         for _ in range(2 if adds else 1):
             number = None
-            while number not in (b"", b"\0"):
+            while number != b"" and not (number and is_number(number, 0)):
                 number = number_at(data, place)
                 place += len(number)
                 if number and number[0] % 2 and not adds:

@@ -101,7 +101,8 @@ class Programs:
         """The same of the text's lines as binary ones, some of them damaged: the form of the ids is given, and told."""
         lines = [read for _, read in rules.lines_of(text)]
         doubled = rng.random() < 0.5
-        data = binary.written([read for read in lines if read != "unread"], doubled)
+        zero = rng.choice((b"\0", b"\0", b"\x80\0", b"\x80\x80\0"))
+        data = binary.written([read for read in lines if read != "unread"], doubled, zero)
         if data and rng.random() < 0.4:
             data = binary.damaged(rng, data)
         lrat.write_bytes(data)

@@ -145,9 +145,9 @@ def check_groups(held, true, clause, groups, fault):
     pivot = clause[0]
     for number, other in against.items():
         if number in groups and not meets(held, true, set(other) - {-pivot}, groups[number], fault):
-            raise Refused("hints of a group end without a conflict")
+            raise Refused("hints of a candidate end without a conflict")
     if fault != "a clause needs no group" and any(number not in groups for number in against):
-        raise Refused("no group for a clause with the negation of the first literal")
+        raise Refused("no hints for a clause with the negation of the pivot")
 
 
 def judge(formula, text, fault=None, read_lines=lines_of):

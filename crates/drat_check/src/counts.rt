@@ -4,14 +4,15 @@ use lrat_text::{Hint, LratLine};
 use sat_formula::CnfFormula;
 use std::cell::Cell;
 
-/// What a run counts. A count stops at the greatest number.
+/// What a run counts. Each count saturates.
 #[derive(Clone, Copy, Debug, Default, PartialEq, Eq)]
 pub struct RunCounts {
     /// Steps of the proof, up to the first conflict.
     pub steps: u64,
     /// Clauses that the accepted lines add.
     pub lemmas: u64,
-    /// Of these, the ones that are redundant by a literal, which their hints resolve on.
+    /// The RAT ones of these: they have a candidate hint, or no hint, since no clause has the
+    /// negated pivot.
     pub redundant: u64,
     /// Hints of all lines.
     pub hints: u64,
@@ -20,12 +21,13 @@ pub struct RunCounts {
 }
 
 impl RunCounts {
-    /// One accepted line more.
+    /// Returns the counts after one accepted line more.
     fn with_line(self, line: LratLine<'_>) -> RunCounts {
         let LratLine::Add { hints, .. } = line else {
             return self;
         };
-        let is_redundant = hints.iter().any(|hint| matches!(hint, Hint::Against(_)));
+        let is_resolved = hints.iter().any(|hint| matches!(hint, Hint::Against(_)));
+        let is_redundant = is_resolved || hints.is_empty();
         RunCounts {
             lemmas: self.lemmas.saturating_add(1),
             redundant: self.redundant.saturating_add(is_redundant as u64),

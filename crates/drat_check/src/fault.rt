@@ -1,4 +1,4 @@
-//! Why a run comes to no verdict.
+//! Why a run has no verdict.
 ghost use Rattle.std.specs.Prelude.{◌≡◌};
 ghost use Rattle.drat_check.specs.declared.fault.ProofFault.TheVariants.{OutOfMemory, Refused, Unread, UnreadLine};
 
@@ -11,7 +11,7 @@ use std::alloc::AllocError;
 use std::io;
 use thiserror::Error;
 
-/// Why a proof comes to no verdict.
+/// Why a proof has no verdict.
 #[derive(Debug, Drop, Error)]
 pub enum ProofFault {
     /// The proof could not be read up to a conflict.
@@ -20,23 +20,21 @@ pub enum ProofFault {
     /// The lines of an LPR proof could not be read up to a conflict.
     #[error("proof: {0}")]
     UnreadLine(LratTextFault),
-    /// A step that the conflict needs is not right, or it is too much to be judged.
+    /// A step that the conflict needs is wrong, or the proof is too large.
     #[error("proof: {0}")]
     Refused(ElaborateFault),
-    /// The checker of LRAT proofs did not accept a line that was made of the proof: a fault of the
-    /// part that makes them.
+    /// The checker of LRAT proofs rejected a line of the elaborator: a defect of the elaborator.
     #[error("internal: line {line} refused: {fault}")]
     Internal { line: u64, fault: LineFault },
-    /// The lines that were made of the proof end before the empty clause: a fault of the same part.
+    /// The elaborated lines end before the empty clause: a defect of the elaborator.
     #[error("internal: no empty clause in the lines")]
     Unfinished,
-    /// There was no memory in the checker, for the formula or for a line that was made of the
-    /// proof.
+    /// There was no memory in the checker, for the formula or for an elaborated line.
     #[error("proof: out of memory")]
     OutOfMemory,
 }
 
-/// What a run answers in place of a verdict.
+/// Why a run has no verdict.
 #[derive(Debug, Drop, Error)]
 pub enum RunFault {
     /// The formula was not read whole.
@@ -54,7 +52,7 @@ pub enum RunFault {
     /// The used clauses could not be written.
     #[error("error writing: {0}")]
     Core(io::Error),
-    /// The verdict stands, and its line could not be written.
+    /// The verdict was reached, but its line could not be written.
     #[error("error writing: {0}")]
     Write(io::Error),
 }

@@ -1,8 +1,8 @@
-//! Whether a DRAT, DPR, FRAT or LPR proof shows a formula to be unsatisfiable, said in one line;
-//! or whether one piece of a proof carries it to the clauses that are wanted behind the piece.
+//! Checks whether a DRAT, DPR, FRAT or LPR proof shows that a formula is unsatisfiable, or whether
+//! a piece of a proof derives its target clauses, and writes the verdict in one line.
 //!
-//! The proof is turned into lines of an LRAT proof by a part that nobody has to trust, and each
-//! line goes to the checker of LRAT proofs. The verdict is that checker's.
+//! An elaborator that need not be trusted turns the proof into lines of an LRAT proof, and the
+//! checker of LRAT proofs checks each. The verdict is that checker's.
 #![tactic(auto)]
 
 mod counts;

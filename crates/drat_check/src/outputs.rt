@@ -1,5 +1,5 @@
-//! What a run writes beside its verdict: the lines that the checker accepted, as LRAT and as DRAT,
-//! and the clauses of the formula that they use.
+//! What a run writes in addition to its verdict: the lines that the checker accepted, as LRAT and
+//! as DRAT, and the clauses of the formula that they use.
 ghost use Rattle.std.specs.Prelude.{◌≡◌, ◌∷◌, [], IfOk, OnErr, OnOk};
 ghost use Rattle.std.specs.Io.KnownBytes.{Appends, Keeps};
 ghost use Rattle.lrat_text.specs.NextLine.{view};
@@ -23,23 +23,29 @@ use std::cell::Cell;
 use std::io;
 use std::io::Write;
 
-/// What a run writes beside its verdict, each where there is a writer for it, and what it counts.
+/// What a run writes in addition to its verdict, each if there is a writer for it, and what it
+/// counts.
 #[derive(Drop)]
 pub struct Outputs<L, C> {
     /// The lines of the LRAT proof.
     pub lrat: Option<L>,
     /// How these lines are written.
     pub form: LineForm,
-    /// The steps of DRAT that they are, without ids and hints.
+    /// The same as steps of DRAT, without ids and hints.
     pub trim: Option<L>,
     /// The clauses of the formula that they use.
     pub core: Option<C>,
-    /// What was counted so far. No clause speaks of it.
+    /// What was counted so far. No contract constrains it.
     pub counts: Cell<RunCounts>,
 }
 
-/// Hands the elaborated lines to a checker that holds the formula, up to the empty clause, which
-/// has to come, and writes each that it accepts, and the steps of DRAT that it is.
+/// Passes the elaborated lines to a checker that stores the formula, up to the empty clause, and
+/// writes each accepted line, as LRAT and as DRAT.
+///
+/// # Errors
+///
+/// `Proof` if a line is rejected, there is none for the empty clause, or memory runs out; `Lrat` or
+/// `Trim` if a write failed.
 pub(crate) fn write_proof<L: Write, C>(
     alloc: Global,
     formula: &CnfFormula,
@@ -74,8 +80,12 @@ pub(crate) fn write_proof<L: Write, C>(
     end_lines(lrat, trim)
 }
 
-/// Hands the elaborated lines to a checker that holds the formula, up to the empty clause or the
-/// last one, and writes each that it accepts, and the steps of DRAT that it is.
+/// Passes the elaborated lines to a checker that stores the formula, up to the empty clause or the
+/// last one, writes each accepted line, as LRAT and as DRAT, and returns the checker.
+///
+/// # Errors
+///
+/// `Proof` if a line is rejected or memory runs out; `Lrat` or `Trim` if a write failed.
 pub(crate) fn write_lines<L: Write>(
     alloc: Global,
     formula: &CnfFormula,
@@ -129,7 +139,7 @@ pub(crate) fn write_lines<L: Write>(
     Err(RunFault::Proof(ProofFault::Unfinished))
 }
 
-/// Writes a line, where lines are wanted.
+/// Writes a line, if there is a writer for lines.
 pub(crate) fn write_accepted<L: Write>(
     alloc: Global,
     lrat: &mut Option<L>,
@@ -148,7 +158,7 @@ pub(crate) fn write_accepted<L: Write>(
     }
 }
 
-/// Writes what the writers of lines and of steps hold back.
+/// Flushes the writers of lines and of steps.
 fn end_lines<L: Write>(lrat: &mut Option<L>, trim: &mut Option<L>) -> Result<(), RunFault>
     ensures lrat { Keeps (bytes_in L.contents lrat.old) (bytes_in L.contents lrat.new) }
     ensures trim { Keeps (bytes_in L.contents trim.old) (bytes_in L.contents trim.new) }
@@ -163,7 +173,7 @@ fn end_lines<L: Write>(lrat: &mut Option<L>, trim: &mut Option<L>) -> Result<(),
     }
 }
 
-/// Writes what a writer holds back, where there is one.
+/// Flushes a writer, if there is one.
 pub(crate) fn flush<W: Write>(out: &mut Option<W>) -> io::Result<()>
     ensures { Keeps (bytes_in W.contents out.old) (bytes_in W.contents out.new) }
 {
@@ -173,7 +183,7 @@ pub(crate) fn flush<W: Write>(out: &mut Option<W>) -> io::Result<()>
     }
 }
 
-/// Writes the clauses of the formula that the elaborated lines use, where they are wanted.
+/// Writes the clauses of the formula that the elaborated lines use, if there is a writer for them.
 pub(crate) fn write_core<C: Write>(
     alloc: Global,
     formula: &CnfFormula,
@@ -207,7 +217,7 @@ fn write_used<C: Write>(
     write_clauses(alloc, &used, out)
 }
 
-/// Writes a formula, and what the writer holds back.
+/// Writes a formula, and flushes the writer.
 pub(crate) fn write_clauses<C: Write>(
     alloc: Global,
     formula: &CnfFormula,
@@ -224,7 +234,7 @@ pub(crate) fn write_clauses<C: Write>(
     }
 }
 
-/// The clauses of the formula that the elaborated lines use, in their order.
+/// Returns the clauses of the formula that the elaborated lines use, in their order.
 pub(crate) fn used_clauses(
     alloc: Global,
     formula: &CnfFormula,

@@ -1,5 +1,4 @@
-//! Runs over one piece of a proof: its lines carry a formula to the clauses that are wanted behind
-//! them.
+//! Runs over one piece of a proof: its lines derive the target clauses from a formula.
 ghost use Rattle.std.specs.Prelude.{◌≡◌, ◌≢◌, ℕ, List, Option, Some, Ok, IfOk, IsNone, IsSome};
 ghost use Rattle.std.specs.Io.KnownBytes.{Appends, Keeps};
 ghost use Rattle.sat_formula.specs.Refuted.{IsRefuted};
@@ -29,7 +28,7 @@ use std::io::{Read, Write};
 use verdicts::{PieceVerdict, write_piece_line};
 use whole_formulas::read_formula;
 
-/// What a run over a piece writes, counts and tells beside its verdict.
+/// What a run over a piece writes, counts and reports in addition to its verdict.
 #[derive(Drop)]
 pub struct PieceOutputs<L, C> {
     /// The lines of the LRAT proof, where there is a writer for them and none for the core.
@@ -38,29 +37,33 @@ pub struct PieceOutputs<L, C> {
     pub form: LineForm,
     /// Clauses of the formula, written as a formula, that are enough for the verdict.
     pub core: Option<C>,
-    /// What was counted so far. No clause speaks of it.
+    /// What was counted so far. No contract constrains it.
     pub counts: Cell<RunCounts>,
-    /// The first wanted clause that is not there, where the verdict is that. No clause speaks of
-    /// it.
+    /// The first target clause that is not stored, if the verdict is `NotCarried`; else it is
+    /// unchanged. No contract says which one it is.
     pub missing: Option<MissingClause>,
-    /// What the formula's header lies about.
+    /// The mismatch of the formula's header, if there is one.
     pub lie: Option<LyingHeader>,
-    /// What the header of the wanted clauses lies about.
+    /// The mismatch of the target clauses' header, if there is one.
     pub wanted_lie: Option<LyingHeader>,
 }
 
-/// Reads a formula and the clauses that are wanted behind a piece of a proof, both in DIMACS CNF,
-/// checks the piece, and writes the verdict's line.
+/// Reads a formula and the target clauses of a piece of a proof, both in DIMACS CNF, checks the
+/// piece, writes the verdict's line, and returns the verdict.
 ///
-/// The verdict is `Carried` where the piece comes to no conflict and each wanted clause is there
-/// behind it: then some assignment satisfies all of them, if one satisfies the formula. A clause
-/// that has the same literals in another order is added as it is wanted, by a line of its own.
-/// Where a step can't be read, or one that is needed is not right, no line is written. A write that
-/// fails ends the run; where it is that of the verdict's line, the verdict stood.
+/// The verdict is `Carried` if the piece leads to no conflict and each target clause is live after
+/// it: then some assignment satisfies all of them, if one satisfies the formula. A clause with the
+/// same literals in another order is added as it is in the target, by a line of its own.
 ///
 /// With a writer for the core the lines are checked over the clauses of the formula that they use,
-/// as over a formula of its own, which is then written. So the verdict is one on the core too, and
-/// the piece before this one has to show no other clauses. No lines are written then.
+/// as over a formula of its own, which is then written. So the verdict holds for the core too, and
+/// the piece before this one need not derive other clauses. No lines are written then.
+///
+/// # Errors
+///
+/// `Run` or `Wanted` with the first input that can't be read, the step that is rejected or the
+/// write that failed, or `Lost`. No line of a verdict is written then, except a beginning of it if
+/// the write of that line failed.
 pub fn run_piece<
     R: Log,
     F: Read + Drop,
@@ -98,6 +101,9 @@ pub fn run_piece<
         → result ≡ Ok Refuted → IsRefuted text }
     ensures lies { TellsPieceLies (F.remaining cnf) (G.remaining holds) outputs.old.wanted_lie result
         outputs.new.lie outputs.new.wanted_lie }
+    ensures kept { IfOk result (λ verdict. verdict ≢ NotCarried
+        → outputs.new.missing ≡ outputs.old.missing) }
+    ensures untold { IsSilentPiece result → outputs.new.missing ≡ outputs.old.missing }
 {
     let formula = match read_formula(alloc, cnf, &mut outputs.lie) {
         Ok(formula) => formula,
@@ -128,8 +134,8 @@ pub fn run_piece<
     }
 }
 
-/// What a piece shows, once what it stands on is written. The lines are checked over the clauses of
-/// the formula that they use where there is a writer for these, and else over the formula, where
+/// Returns what a piece shows, once the outputs are written. The lines are checked over the clauses
+/// of the formula that they use if there is a writer for these, else over the formula, and then the
 /// lines are written.
 fn judge_piece<R: Log, P: Read + Drop, L: Write + Drop, C: Write + Drop>(
     rt: &R,
@@ -152,15 +158,17 @@ fn judge_piece<R: Log, P: Read + Drop, L: Write + Drop, C: Write + Drop>(
     ensures form { outputs.new.form ≡ outputs.old.form }
     ensures lie { outputs.new.lie ≡ outputs.old.lie }
     ensures wanted_lie { outputs.new.wanted_lie ≡ outputs.old.wanted_lie }
+    ensures kept { result ≢ Ok NotCarried → outputs.new.missing ≡ outputs.old.missing }
 {
     if let Err(fault) = read_proof(alloc, formula, piece, format, &outputs.counts, elaborator) {
         return Err(PieceFault::Run(RunFault::Proof(fault)));
     }
-    outputs.missing = match first_missing(alloc, elaborator, wanted) {
+    let missing = match first_missing(alloc, elaborator, wanted) {
         Ok(missing) => missing,
         Err(fault) => return Err(PieceFault::Run(RunFault::Proof(fault))),
     };
-    if outputs.missing.is_some() {
+    if missing.is_some() {
+        outputs.missing = missing;
         return Ok(PieceVerdict::NotCarried);
     }
     if let Err(fault) = elaborate(rt, elaborator) {
@@ -180,8 +188,8 @@ fn judge_piece<R: Log, P: Read + Drop, L: Write + Drop, C: Write + Drop>(
     }
 }
 
-/// Wants the clauses behind the last step, where there is no conflict. The answer is the first one
-/// that is not there.
+/// Makes the clauses targets after the last step, if there is no conflict. Returns the first one
+/// that is not live.
 fn first_missing(
     alloc: Global,
     elaborator: &mut Elaborator,
@@ -202,7 +210,8 @@ fn first_missing(
     Ok(None)
 }
 
-/// Hands the elaborated lines to a checker that holds the formula. It decides what they show.
+/// Passes the elaborated lines to a checker that stores the formula. Returns the verdict, which
+/// that checker decides.
 pub(crate) fn show_piece<L: Write + Drop>(
     alloc: Global,
     formula: &CnfFormula,
@@ -244,7 +253,7 @@ pub(crate) fn show_piece<L: Write + Drop>(
     end_lines(lrat, PieceVerdict::Carried)
 }
 
-/// Writes what the writer of lines holds back, and answers the verdict.
+/// Flushes the writer of lines, and returns the verdict.
 fn end_lines<L: Write>(
     lrat: &mut Option<L>,
     verdict: PieceVerdict,

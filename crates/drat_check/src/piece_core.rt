@@ -1,5 +1,5 @@
 //! The core of a piece of a proof: the clauses of the formula that its lines use. The lines are
-//! checked over them alone.
+//! checked over the core alone.
 ghost use Rattle.std.specs.Prelude.{ℕ, List, Option};
 ghost use Rattle.drat_check.specs.PieceCores.{WritesCore};
 ghost use Rattle.drat_check.specs.Pieces.{IsEarlyPiece};
@@ -17,8 +17,8 @@ use std::cell::Cell;
 use std::io::Write;
 use verdicts::PieceVerdict;
 
-/// Hands the elaborated lines to a checker that holds the clauses of the formula that they use, and
-/// no other, and writes these as a formula once it decides what the lines show.
+/// Passes the elaborated lines to a checker that stores the clauses of the formula that they use,
+/// and no other, and writes these as a formula. Returns the verdict, which that checker decides.
 pub(crate) fn show_core<C: Write + Drop>(
     alloc: Global,
     formula: &CnfFormula,

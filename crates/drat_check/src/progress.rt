@@ -1,11 +1,11 @@
-//! How far the second half of a run has come, for its log.
+//! The progress of the backward pass, for the log.
 use drat_elaborate::Elaborator;
 use log::{Log, info};
 
-/// After this many steps it may be said how far the run has come.
+/// Progress may be reported after this many steps.
 pub(crate) const STEPS_A_REPORT: u64 = 64;
 
-/// Says how much of the proof was checked backward, of this many steps.
+/// Reports how much of the proof was checked backward, of this many steps.
 pub(crate) fn tell_checked<L: Log>(rt: &L, elaborator: &Elaborator, steps: u64) {
     let done = steps.saturating_sub(elaborator.steps_left());
     let hundredths = done.saturating_mul(100) / steps.max(1);

@@ -30,7 +30,7 @@ pub(crate) fn read_proof<P: Read + Drop>(
     read
 }
 
-/// Hands an elaborator the steps up to the first conflict, and counts them.
+/// Passes the steps up to the first conflict to an elaborator, and counts them.
 fn hand_steps<P: Read + Drop>(
     reader: &mut ProofReader<P>,
     elaborator: &mut Elaborator,
@@ -46,7 +46,7 @@ fn hand_steps<P: Read + Drop>(
     Ok(())
 }
 
-/// Hands an elaborator the formula.
+/// Passes the formula to an elaborator.
 fn begin(formula: &CnfFormula, elaborator: &mut Elaborator) -> Result<(), ProofFault> {
     for clause in formula {
         elaborator.add_clause(clause)?;
@@ -55,7 +55,7 @@ fn begin(formula: &CnfFormula, elaborator: &mut Elaborator) -> Result<(), ProofF
     Ok(())
 }
 
-/// Checks backward what the conflict needs.
+/// Checks the steps that the conflict needs, backward.
 pub(crate) fn elaborate<L: Log>(rt: &L, elaborator: &mut Elaborator) -> Result<(), ProofFault> {
     let steps = elaborator.steps_left();
     // Each call but the last goes over steps, of which there are fewer.
@@ -68,8 +68,8 @@ pub(crate) fn elaborate<L: Log>(rt: &L, elaborator: &mut Elaborator) -> Result<(
     Ok(())
 }
 
-/// Why there is no verdict where the checker does not accept a line: there was no memory for it, or
-/// else it is a fault of the part that made it.
+/// Returns the fault of a line that the checker does not accept: no memory for it, or else a defect
+/// of the elaborator.
 pub(crate) fn line_fault(line: u64, fault: LineFault) -> ProofFault
     ensures memory { fault ≡ LineFault.OutOfMemory → result ≡ ProofFault.OutOfMemory }
     ensures internal { fault ≢ LineFault.OutOfMemory → result ≡ ProofFault.Internal line fault }

@@ -12,10 +12,10 @@ use std::io::Read;
 /// Whether a proof is DRAT, DPR, FRAT or LPR.
 #[derive(Clone, Copy, Debug, PartialEq, Eq)]
 pub enum ProofFormat {
-    /// Its first bytes tell it: it is FRAT where the first step begins with `o`, `f`, `l` or `r`,
-    /// and else DPR, which is DRAT whose additions may have witnesses.
+    /// It is detected from the first bytes: FRAT if the first step begins with `o`, `f`, `l` or
+    /// `r`, and else DPR, which is DRAT whose additions may have witnesses.
     Told,
-    /// DRAT, where a literal of a clause may come again and says nothing more.
+    /// DRAT, where repeated literals of a clause are ignored.
     Drat,
     Frat,
     /// LPR text, which is LRAT text whose clauses may have witnesses.
@@ -32,8 +32,8 @@ pub(crate) enum ProofReader<R> {
 }
 
 impl<R: Read + Drop> ProofReader<R> {
-    /// A reader at the start of a proof. Of one that has to tell its format the first bytes are
-    /// read.
+    /// Returns a reader at the start of a proof. If the format is to be detected, the first bytes
+    /// are read.
     pub(crate) fn new(
         alloc: Global,
         proof: R,
@@ -47,7 +47,7 @@ impl<R: Read + Drop> ProofReader<R> {
         }
     }
 
-    /// A reader of a proof that tells its format.
+    /// Returns a reader of a proof whose format is detected.
     fn told(alloc: Global, mut bytes: Bytes<R>) -> Result<ProofReader<R>, DratFault> {
         if is_frat(&mut bytes)? {
             Ok(ProofReader::Frat(FratReader::over(alloc, bytes)))
@@ -56,7 +56,7 @@ impl<R: Read + Drop> ProofReader<R> {
         }
     }
 
-    /// Hands the next step to an elaborator. The answer is whether there was one.
+    /// Passes the next step to an elaborator. Returns whether there was one.
     #[inline(always)]
     pub(crate) fn hand_step(&mut self, elaborator: &mut Elaborator) -> Result<bool, ProofFault> {
         match self {

@@ -1,4 +1,4 @@
-//! Runs: a proof is checked, and its verdict and what it stands on are written.
+//! Runs: a proof is checked, and its verdict and the further outputs are written.
 ghost use Rattle.std.specs.Prelude.{◌≡◌, ◌⊎◌, ℕ, Bool, false, List, IfOk, Ok, Some};
 ghost use Rattle.std.specs.Io.KnownBytes.{Appends};
 ghost use Rattle.sat_rules.specs.Clauses.{all_true};
@@ -22,12 +22,16 @@ use std::io::{Read, Write};
 use verdicts::{Verdict, write_line};
 use whole_formulas::read_formula;
 
-/// Reads a formula in DIMACS CNF, checks the proof, and writes the verdict's line, and before it
-/// what is wanted beside it.
+/// Reads a formula in DIMACS CNF, checks the proof, and writes what `run_proof` does. Returns the
+/// verdict.
 ///
-/// The proof is read only once the formula was read whole. What is written is as for `run_proof`;
-/// nothing is where the formula can't be read. `lie` tells what the formula's header lies about;
-/// where the formula can't be read that is nothing.
+/// The proof is read only after the whole formula. `lie` gets the mismatch of the formula's header,
+/// if there is one.
+///
+/// # Errors
+///
+/// `Formula` if the formula can't be read, with nothing written and `lie` `None`; else those of
+/// `run_proof`.
 pub fn run_check<R: Log, F: Read + Drop, P: Read + Drop, W: Write, L: Write, C: Write>(
     rt: &R,
     alloc: Global,
@@ -57,19 +61,23 @@ pub fn run_check<R: Log, F: Read + Drop, P: Read + Drop, W: Write, L: Write, C: 
     }
 }
 
-/// Checks a proof after a formula, and writes the verdict's line, and before it what is wanted
-/// beside it.
+/// Checks a proof after a formula, writes the outputs and then the verdict's line, and returns the
+/// verdict.
 ///
-/// The proof is read up to its first conflict by propagation; the verdict is `NotVerified` where it
-/// ends without one. Where a step can't be read, or one that the conflict needs is not right, no
-/// line of a verdict is written.
+/// The proof is read up to its first conflict by propagation; the verdict is `NotVerified` if it
+/// ends without one.
 ///
 /// The lines of the LRAT proof are those that the checker accepted, up to the empty clause, each
-/// written in the form of `outputs` as it is accepted, and so are the steps of DRAT that it is.
-/// Then come the clauses of the formula that they use, as a formula, and then the verdict's line.
-/// Where the proof shows nothing, and where it is refused before a line is made, none of them is
-/// written. A write that fails ends the run: nothing of what comes later is written. Where it is
-/// that of the verdict's line, the verdict stood.
+/// written in the form of `outputs` as it is accepted, and so are they as steps of DRAT. Then come
+/// the clauses of the formula that they use, as a formula, and then the verdict's line. If the
+/// proof has no conflict, only the verdict's line is written; if it is rejected before the first
+/// line, nothing is.
+///
+/// # Errors
+///
+/// `Proof` if a step can't be read, or one that the conflict needs is wrong; `Lrat`, `Trim`, `Core`
+/// or `Write` with the first write that failed, after which nothing is written. The verdict's line
+/// is not written then, except a beginning of it for `Write`, after which the verdict was reached.
 pub fn run_proof<R: Log, P: Read + Drop, W: Write, L: Write, C: Write>(
     rt: &R,
     alloc: Global,
@@ -108,8 +116,8 @@ pub fn run_proof<R: Log, P: Read + Drop, W: Write, L: Write, C: Write>(
     }
 }
 
-/// What a proof shows of a formula, once what it stands on is written. `Verified` is answered where
-/// the checker of LRAT proofs has taken the empty clause.
+/// Returns what a proof shows of a formula, once the outputs are written. It is `Verified` if the
+/// checker of LRAT proofs has accepted the empty clause.
 fn verdict_of<R: Log, P: Read + Drop, L: Write, C: Write>(
     rt: &R,
     alloc: Global,

@@ -1,4 +1,4 @@
-//! The ids under which the clauses are stored that are wanted behind a piece of a proof.
+//! The ids of the target clauses of a piece of a proof.
 ghost use Rattle.drat_check.specs.Outputs.{bytes_in};
 ghost use Rattle.drat_check.specs.Pieces.{GoesOn, IsEarlyPiece};
 
@@ -16,8 +16,12 @@ use std::alloc::{AllocError, Global};
 use std::cell::Cell;
 use std::io::Write;
 
-/// The ids of the wanted clauses. Where the clause that was found has the literals in another
-/// order, the wanted one is added by a line that this clause alone is the hint of.
+/// Returns the ids of the target clauses. If the clause that was found has its literals in another
+/// order, the target is added by a line with that clause as its only hint.
+///
+/// # Errors
+///
+/// `Lost` if a clause is not stored, `Run` if memory runs out or a write failed.
 pub(crate) fn stored_ids<L: Write>(
     alloc: Global,
     checker: &mut LratChecker,
@@ -50,8 +54,8 @@ pub(crate) fn stored_ids<L: Write>(
     Ok(ids)
 }
 
-/// The id of a clause as it is written, where one that has its literals is found. If their order
-/// differs, it is added under the next id.
+/// Returns the id of a clause with its literals in this order, by the id of one that has the same
+/// literals. If the order differs, it is added under the next id.
 fn id_as_written<L: Write>(
     alloc: Global,
     checker: &mut LratChecker,
@@ -75,7 +79,7 @@ fn id_as_written<L: Write>(
     }
 }
 
-/// Whether this clause is stored under an id, with its literals in the same order.
+/// Returns whether this clause is stored under an id, with its literals in the same order.
 fn is_stored(checker: &LratChecker, id: u64, clause: &[Lit]) -> bool {
     match checker.clause(id) {
         Some(found) => found == clause,

@@ -1,4 +1,4 @@
-//! The steps of DRAT that the accepted lines are.
+//! The accepted lines as steps of DRAT.
 ghost use Rattle.std.specs.Prelude.{◌≡◌, ◌++◌, ◌||◌, ℕ, List, IfOk, OnOk, OnErr};
 ghost use Rattle.std.specs.Io.KnownBytes.{Appends};
 ghost use Rattle.lrat_checker.specs.Standing.{IsReady};
@@ -16,8 +16,9 @@ use std::io;
 use std::io::Write;
 use whole_writes::append_whole;
 
-/// The steps of a line that the checker has not taken yet, where steps are wanted. Clauses are
-/// deleted once one was added: before that those of the formula go that are not used.
+/// Returns the steps of a line that the checker has not accepted yet, none if there is no writer
+/// for steps. Deletions are left out before the first addition: they delete the unused clauses of
+/// the formula.
 pub(crate) fn steps_of<L>(
     alloc: Global,
     trim: &Option<L>,
@@ -42,7 +43,7 @@ pub(crate) fn steps_of<L>(
     Ok(text)
 }
 
-/// Whether this line adds a clause, or one before it did.
+/// Returns whether this line adds a clause, or one before it did.
 pub(crate) fn begun_by(has_begun: bool, line: LratLine<'_>) -> bool
     ensures { result ≡ (has_begun || adds_clause (view line.entry)) }
 {
@@ -64,7 +65,7 @@ fn push_deletions(text: &mut Vec<u8>, checker: &LratChecker, ids: &[u64]) -> Res
     Ok(())
 }
 
-/// Writes steps, where they are wanted.
+/// Writes steps, if there is a writer for them.
 pub(crate) fn write_steps<L: Write>(trim: &mut Option<L>, steps: &[u8]) -> io::Result<()>
     ensures whole { OnOk result (Appends (bytes_in L.contents trim.old)
         (bytes_in L.contents trim.new) steps.now) }

@@ -1,4 +1,4 @@
-//! The clause that is read: its literals, and the same in order.
+//! The clause that is read: its literals as written, and sorted.
 use sat_formula::Lit;
 use std::alloc::{AllocError, Global};
 
@@ -7,7 +7,7 @@ use std::alloc::{AllocError, Global};
 pub(crate) struct ReadClause {
     /// As it was written, each literal once.
     pub(crate) lits: Vec<Lit>,
-    /// The same by their codes.
+    /// The same, sorted by their codes.
     sorted: Vec<Lit>,
     pub(crate) is_tautology: bool,
 }
@@ -21,7 +21,7 @@ impl ReadClause {
         }
     }
 
-    /// Takes in a clause. The answer is whether some literal stands twice.
+    /// Reads a clause. Returns whether a literal is repeated.
     pub(crate) fn read(&mut self, clause: &[Lit]) -> Result<bool, AllocError> {
         self.sorted.clear();
         self.sorted.extend_from_slice(clause)?;
@@ -41,7 +41,7 @@ impl ReadClause {
         Ok(true)
     }
 
-    /// Whether a clause of this many literals has just these, in any order.
+    /// Returns whether a clause of this many different literals has just these, in any order.
     pub(crate) fn is_same(&self, clause: &[Lit], width: usize) -> bool {
         width == self.sorted.len()
             && clause
@@ -49,17 +49,17 @@ impl ReadClause {
                 .all(|lit| self.sorted.binary_search(lit).is_ok())
     }
 
-    /// A hash in which the order of the literals doesn't matter.
-    pub(crate) fn hash(&self) -> u32 {
+    /// Returns a hash in which the order of the literals doesn't matter. The seed selects the hash.
+    pub(crate) fn hash(&self, seed: u64) -> u32 {
         let mut sum = 0u64;
         for lit in &self.sorted {
-            sum = sum.wrapping_add(mixed(lit.code() as u64));
+            sum = sum.wrapping_add(mixed((lit.code() as u64).wrapping_add(seed)));
         }
         (sum >> 32) as u32
     }
 }
 
-/// Whether a literal stands next to its negation.
+/// Returns whether a literal and its negation are neighbours.
 fn has_opposites(sorted: &[Lit]) -> bool {
     let mut last = None;
     for lit in sorted {
@@ -71,8 +71,13 @@ fn has_opposites(sorted: &[Lit]) -> bool {
     false
 }
 
-/// The code of a literal, each bit of which changes many of the answer.
-fn mixed(code: u64) -> u64 {
-    let spread = code.wrapping_add(1).wrapping_mul(0x9E37_79B9_7F4A_7C15);
+/// Returns the seed with a literal mixed into it.
+pub(crate) fn stirred(seed: u64, lit: Lit) -> u64 {
+    mixed((lit.code() as u64).wrapping_add(seed.rotate_left(23)))
+}
+
+/// Returns a mixed number: each bit of the argument changes many of its bits.
+fn mixed(number: u64) -> u64 {
+    let spread = number.wrapping_add(1).wrapping_mul(0x9E37_79B9_7F4A_7C15);
     (spread ^ (spread >> 29)).wrapping_mul(0xBF58_476D_1CE4_E5B9)
 }

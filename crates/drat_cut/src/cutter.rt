@@ -1,4 +1,4 @@
-//! A proof goes by, and what lives is kept.
+//! The live clauses of a proof, as its steps are read.
 use crate::clause::ReadClause;
 use crate::fault::CutFault;
 use crate::live::LiveClauses;
@@ -13,24 +13,24 @@ use std::{io, mem};
 /// How the additions of a proof are read.
 #[derive(Clone, Copy, PartialEq, Eq)]
 pub enum Additions {
-    /// As DRAT has them: all literals are the clause's, and one that comes again says nothing more.
+    /// As in DRAT: all literals are the clause's, and repeated ones are ignored.
     Drat,
-    /// As DPR has them: where the first literal comes again, the literals from there on are the
-    /// clause's witness.
+    /// As in DPR: if the first literal is repeated, the literals from there on are the clause's
+    /// witness.
     Dpr,
 }
 
-/// What a step came to. Of the first two the text is what `step_text` has.
+/// The effect of a step. `step_text` has the text of the first two.
 #[derive(Clone, Copy, PartialEq, Eq)]
 pub enum Taken {
     Lemma,
     Deletion,
-    /// It has no effect: it deletes what does not live or forces a literal, or adds a tautology, or
-    /// a conflict stood before it.
+    /// None: it deletes a clause that is not live or is the reason of a literal, or adds a
+    /// tautology, or comes after a conflict.
     Nothing,
 }
 
-/// What the step does whose clause was read.
+/// The kind of the step whose clause was read.
 #[derive(Clone, Copy)]
 enum Awaited {
     Nothing,
@@ -38,10 +38,13 @@ enum Awaited {
     Deletion,
 }
 
-/// The clauses that live at a place of a proof, and the text of the step before it.
+/// The live clauses at a position of a proof, and the text of the step before it.
 ///
-/// Literals that clauses force are propagated, and the clause that forces one is not deleted, as
-/// checkers do that go through a proof backward.
+/// Units are propagated, and the reason of a literal is not deleted, as in backward checkers.
+///
+/// # Errors
+///
+/// `OutOfMemory`, or `TooMany` clauses; after an error the live clauses are unspecified.
 #[derive(Drop)]
 pub struct Cutter {
     live: LiveClauses,
@@ -53,10 +56,12 @@ pub struct Cutter {
     awaited: Awaited,
     text: Vec<u8>,
     var_count: usize,
+    /// The formula is complete.
+    has_begun: bool,
 }
 
 impl Cutter {
-    /// Before a formula.
+    /// Returns a cutter at the start of a formula. Allocates no memory.
     pub fn new(alloc: Global, additions: Additions) -> Cutter {
         Cutter {
             live: LiveClauses::new(alloc),
@@ -67,36 +72,41 @@ impl Cutter {
             awaited: Awaited::Nothing,
             text: Vec::new(alloc),
             var_count: 0,
+            has_begun: false,
         }
     }
 
-    /// How many clauses live.
+    /// Returns how many clauses are live.
     pub fn live_count(&self) -> usize {
         self.live.slots.count()
     }
 
-    /// Whether propagation alone leads to a conflict: the steps so far refute the formula.
+    /// Returns whether propagation has led to a conflict: the steps so far refute the formula.
     pub fn has_conflict(&self) -> bool {
         self.units.conflict
     }
 
-    /// The text of the last step that was taken.
+    /// Returns the text of the last step that had an effect.
     pub fn step_text(&self) -> &[u8] {
         self.text.as_slice()
     }
 
-    /// Takes in a clause of the formula.
+    /// Adds a clause of the formula, before the first step of the proof is read.
     pub fn add_formula_clause(&mut self, clause: &[Lit]) -> Result<(), CutFault> {
         self.read_clause(clause)?;
         if self.read.is_tautology {
             return Ok(());
         }
-        let slot = self.live.put(clause, &self.read)?;
+        let slot = self.live.put_formula_clause(clause, &self.read)?;
         self.units.attach(&mut self.live.slots, slot)
     }
 
-    /// Reads a step of the proof. What lives is still what lived before it.
+    /// Reads a step of the proof. The live clauses do not change before `take`.
     pub fn read(&mut self, step: DratStep<'_>) -> Result<(), CutFault> {
+        if !self.has_begun {
+            self.has_begun = true;
+            self.live.end_formula(&mut self.read)?;
+        }
         match step {
             DratStep::Add(lits) => {
                 self.awaited = Awaited::Lemma;
@@ -109,7 +119,7 @@ impl Cutter {
         }
     }
 
-    /// Takes in the step that was read, once.
+    /// Applies the step that was read, once, and returns its effect.
     pub fn take(&mut self) -> Result<Taken, CutFault> {
         let awaited = mem::replace(&mut self.awaited, Awaited::Nothing);
         match awaited {
@@ -120,11 +130,12 @@ impl Cutter {
         }
     }
 
+    /// Adds the lemma that was read, and writes its text.
     fn add(&mut self) -> Result<Taken, CutFault> {
         if self.read.is_tautology {
             return Ok(Taken::Nothing);
         }
-        let slot = self.live.put_read(&self.read)?;
+        let slot = self.live.put(&self.read)?;
         self.units.attach(&mut self.live.slots, slot)?;
         self.text.clear();
         push_lits(&mut self.text, &self.read.lits)?;
@@ -132,6 +143,7 @@ impl Cutter {
         Ok(Taken::Lemma)
     }
 
+    /// Deletes a clause with the literals that were read, if there is one, and writes its text.
     fn delete(&mut self) -> Result<Taken, CutFault> {
         let Some(slot) = self.live.take(&self.read) else {
             return Ok(Taken::Nothing);
@@ -144,6 +156,7 @@ impl Cutter {
         Ok(Taken::Deletion)
     }
 
+    /// Reads the clause of an addition and its witness.
     fn read_lemma(&mut self, lits: &[Lit]) -> Result<(), CutFault> {
         let (clause, witness) = match self.additions {
             Additions::Drat => lits.split_at(lits.len()),
@@ -154,6 +167,7 @@ impl Cutter {
         self.read_clause(clause)
     }
 
+    /// Reads a clause, and counts its variables.
     fn read_clause(&mut self, clause: &[Lit]) -> Result<(), CutFault> {
         self.read.read(clause)?;
         for lit in clause {
@@ -162,7 +176,11 @@ impl Cutter {
         Ok(())
     }
 
-    /// Writes the clauses that live, as a formula.
+    /// Writes the live clauses as a formula.
+    ///
+    /// # Errors
+    ///
+    /// The fault of the first write that failed; a beginning of the formula is written then.
     pub fn write_live<W: Write>(&mut self, out: &mut W) -> io::Result<()> {
         let (vars, count) = (self.var_count, self.live.slots.count());
         writeln!(out, "p cnf {vars} {count}")?;
@@ -177,7 +195,8 @@ impl Cutter {
     }
 }
 
-/// The clause of an addition and its witness, which begins where the first literal comes again.
+/// Returns the clause of an addition and its witness, which begins where the first literal is
+/// repeated.
 fn parts(lits: &[Lit]) -> (&[Lit], &[Lit]) {
     for place in 1..lits.len() {
         if lits[place] == lits[0] {

@@ -7,7 +7,7 @@ use thiserror::Error;
 pub enum CutFault {
     #[error("out of memory")]
     OutOfMemory(#[from(alloc)] AllocError),
-    /// More clauses live than can be told apart.
+    /// More clauses are live than 32 bits can number.
     #[error("too many clauses live")]
     TooMany,
 }

@@ -1,8 +1,8 @@
-//! Cuts DRAT and DPR proofs into pieces while they are read: what lives at each place of a proof,
-//! and the steps that take effect there.
+//! Cuts DRAT and DPR proofs into pieces while they are read: the live clauses at each position of a
+//! proof, and the steps that have an effect.
 //!
-//! Nobody has to trust it: each piece is for a checker, and where the clauses that live are wrong,
-//! the piece before them or the one behind them is refused.
+//! It need not be trusted: a checker checks each piece, and if the live clauses are wrong, the
+//! piece before or after them is rejected.
 #![tactic(auto)]
 
 mod clause;

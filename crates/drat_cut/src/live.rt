@@ -1,15 +1,18 @@
-//! The clauses that live, by their literals.
-use crate::clause::ReadClause;
+//! The live clauses, by their literals.
+use crate::clause::{ReadClause, stirred};
 use crate::fault::CutFault;
 use crate::slots::{Slot, SlotLink, Slots};
 use sat_formula::Lit;
 use std::alloc::{AllocError, Global};
 
-/// The clauses that live, in buckets by a hash of their literals.
+/// The live clauses, in buckets by a hash of their literals. Those of the formula are found once it
+/// is complete: they select the hash, so that no list of clauses has equal hashes for every
+/// formula.
 #[derive(Drop)]
 pub(crate) struct LiveClauses {
     pub(crate) slots: Slots,
     buckets: Vec<SlotLink>,
+    seed: u64,
 }
 
 impl LiveClauses {
@@ -19,13 +22,39 @@ impl LiveClauses {
         LiveClauses {
             slots: Slots::new(alloc),
             buckets: Vec::new(alloc),
+            seed: 0,
         }
     }
 
-    /// Puts in a clause, as it is written, that was read.
-    pub(crate) fn put(&mut self, clause: &[Lit], read: &ReadClause) -> Result<Slot, CutFault> {
-        let width = u32::try_from(read.lits.len()).map_err(|_| CutFault::TooMany)?;
-        let slot = self.slots.put(clause, width, read.hash())?;
+    /// Adds a clause of the formula, with its literals as written. Returns its slot.
+    pub(crate) fn put_formula_clause(
+        &mut self,
+        clause: &[Lit],
+        read: &ReadClause,
+    ) -> Result<Slot, CutFault> {
+        for lit in clause {
+            self.seed = stirred(self.seed, *lit);
+        }
+        self.slots.put(clause, width_of(read)?, 0)
+    }
+
+    /// Ends the formula, and enters its clauses. `read` is overwritten.
+    pub(crate) fn end_formula(&mut self, read: &mut ReadClause) -> Result<(), AllocError> {
+        for number in 0..self.slots.len() {
+            if let Some(slot) = self.slots.living(number) {
+                if let Some(entry) = self.slots.get_mut(slot) {
+                    read.read(&entry.lits)?;
+                    entry.hash = read.hash(self.seed);
+                }
+            }
+        }
+        self.grow()
+    }
+
+    /// Adds the clause that was read, each literal once. Returns its slot.
+    pub(crate) fn put(&mut self, read: &ReadClause) -> Result<Slot, CutFault> {
+        let hash = read.hash(self.seed);
+        let slot = self.slots.put(&read.lits, width_of(read)?, hash)?;
         if self.slots.count() > self.buckets.len() {
             self.grow()?;
         } else {
@@ -34,15 +63,11 @@ impl LiveClauses {
         Ok(slot)
     }
 
-    /// Puts in a clause that was read, each literal once.
-    pub(crate) fn put_read(&mut self, read: &ReadClause) -> Result<Slot, CutFault> {
-        self.put(&read.lits, read)
-    }
-
-    /// Twice as many buckets, with all that live.
+    /// Makes as many buckets as there are live clauses, or up to twice as many, and enters all of
+    /// these.
     fn grow(&mut self) -> Result<(), AllocError> {
-        let twice = self.buckets.len().saturating_mul(2);
-        let size = twice.max(LiveClauses::FIRST_SIZE);
+        let count = self.slots.count().max(LiveClauses::FIRST_SIZE);
+        let size = count.checked_next_power_of_two().unwrap_or(usize::MAX);
         self.buckets.clear();
         self.buckets.resize(size, SlotLink::NONE)?;
         for number in 0..self.slots.len() {
@@ -53,6 +78,7 @@ impl LiveClauses {
         Ok(())
     }
 
+    /// Enters a clause into its bucket, which must exist.
     fn enter(&mut self, slot: Slot) {
         let Some(entry) = self.slots.get_mut(slot) else {
             return;
@@ -63,10 +89,10 @@ impl LiveClauses {
         }
     }
 
-    /// A clause with just the literals that were read and that forces nothing. It is no longer
-    /// found.
+    /// Takes out and returns a clause with just the literals that were read that is no reason, if
+    /// there is one.
     pub(crate) fn take(&mut self, read: &ReadClause) -> Option<Slot> {
-        let hash = read.hash();
+        let hash = read.hash(self.seed);
         let mut before: Option<Slot> = None;
         let mut at = *bucket_of(&mut self.buckets, hash)?;
         for _ in 0..self.slots.len() {
@@ -86,7 +112,7 @@ impl LiveClauses {
         None
     }
 
-    /// A clause is taken out of its bucket, of which these stand before it and behind it.
+    /// Takes a clause out of its bucket, between the one before it and the one after it.
     fn leave(&mut self, before: Option<Slot>, next: SlotLink, hash: u32) {
         match before {
             Some(before) => {
@@ -103,7 +129,12 @@ impl LiveClauses {
     }
 }
 
-/// The bucket of a hash, where there is one.
+/// Returns how many literals a clause has that was read.
+fn width_of(read: &ReadClause) -> Result<u32, CutFault> {
+    u32::try_from(read.lits.len()).map_err(|_| CutFault::TooMany)
+}
+
+/// Returns the bucket of a hash, if there is one.
 fn bucket_of(buckets: &mut Vec<SlotLink>, hash: u32) -> Option<&mut SlotLink> {
     let mask = buckets.len().wrapping_sub(1);
     buckets.get_mut(hash as usize & mask)

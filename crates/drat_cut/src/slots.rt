@@ -1,4 +1,4 @@
-//! The clauses that live, each in a slot.
+//! The live clauses, each in a slot.
 use crate::fault::CutFault;
 use sat_formula::Lit;
 use std::alloc::Global;
@@ -15,10 +15,12 @@ pub(crate) struct SlotLink(u32);
 impl SlotLink {
     pub(crate) const NONE: SlotLink = SlotLink(u32::MAX);
 
+    /// Returns the link to a slot.
     pub(crate) fn to(slot: Slot) -> SlotLink {
         SlotLink(slot.0)
     }
 
+    /// Returns the slot, if there is one.
     pub(crate) fn get(self) -> Option<Slot> {
         if self.0 == u32::MAX {
             None
@@ -28,30 +30,32 @@ impl SlotLink {
     }
 }
 
-/// What is kept of a clause that lives.
+/// The entry of a live clause.
 #[derive(Drop)]
 pub(crate) struct Entry {
     /// As they are written.
     pub(crate) lits: Vec<Lit>,
-    /// How many they are, where one that stands twice counts once.
+    /// How many different ones they are.
     pub(crate) width: u32,
     pub(crate) hash: u32,
     /// The next one in its bucket, or the next free slot.
     pub(crate) next: SlotLink,
     /// The two literals that it is watched by.
     pub(crate) watched: Option<(Lit, Lit)>,
-    /// It forces a literal.
+    /// All its other literals before this position are false.
+    pub(crate) open_from: usize,
+    /// It is the reason of a literal.
     pub(crate) is_reason: bool,
     pub(crate) lives: bool,
 }
 
-/// The slots, of which those of clauses that are gone are used again.
+/// The slots. Those of deleted clauses are reused.
 #[derive(Drop)]
 pub(crate) struct Slots {
     alloc: Global,
     entries: Vec<Entry>,
     free: SlotLink,
-    /// How many clauses live.
+    /// How many clauses are live.
     count: usize,
 }
 
@@ -65,16 +69,17 @@ impl Slots {
         }
     }
 
-    /// How many clauses live.
+    /// Returns how many clauses are live.
     pub(crate) fn count(&self) -> usize {
         self.count
     }
 
+    /// Returns how many slots there are, free ones included.
     pub(crate) fn len(&self) -> usize {
         self.entries.len()
     }
 
-    /// The slot of a number, where a clause lives in it.
+    /// Returns the slot of a number, if a clause lives in it.
     pub(crate) fn living(&self, number: usize) -> Option<Slot> {
         if !self.entries.get(number)?.lives {
             return None;
@@ -82,19 +87,26 @@ impl Slots {
         Some(Slot(u32::try_from(number).ok()?))
     }
 
+    /// Returns the entry of a slot, if there is such a slot.
     pub(crate) fn get(&self, slot: Slot) -> Option<&Entry> {
         self.entries.get(slot.0 as usize)
     }
 
+    /// Returns the entry of a slot, to be changed.
     pub(crate) fn get_mut(&mut self, slot: Slot) -> Option<&mut Entry> {
         self.entries.get_mut(slot.0 as usize)
     }
 
+    /// Returns the entries of all slots, free ones included.
     pub(crate) fn entries(&self) -> &[Entry] {
         self.entries.as_slice()
     }
 
-    /// Puts a clause into a slot.
+    /// Stores a clause in a slot, and returns the slot.
+    ///
+    /// # Errors
+    ///
+    /// `TooMany` if there is no number for the slot, or `OutOfMemory`.
     pub(crate) fn put(&mut self, clause: &[Lit], width: u32, hash: u32) -> Result<Slot, CutFault> {
         let entry = Entry {
             lits: Vec::from_slice(self.alloc, clause)?,
@@ -102,6 +114,7 @@ impl Slots {
             hash,
             next: SlotLink::NONE,
             watched: None,
+            open_from: 0,
             is_reason: false,
             lives: true,
         };
@@ -121,7 +134,7 @@ impl Slots {
         Ok(Slot(number))
     }
 
-    /// The clause is gone, and its slot is free.
+    /// Frees the slot of a deleted clause.
     pub(crate) fn release(&mut self, slot: Slot) {
         if let Some(found) = self.entries.get_mut(slot.0 as usize) {
             let _gone = mem::replace(&mut found.lits, Vec::new(self.alloc));

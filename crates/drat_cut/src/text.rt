@@ -3,13 +3,13 @@ use itoa::Buffer;
 use sat_formula::Lit;
 use std::alloc::AllocError;
 
-/// The literals of a clause as DIMACS numbers, and the 0 with its LF.
+/// Appends the literals of a clause as DIMACS numbers, and the 0 with its LF.
 pub(crate) fn push_clause(text: &mut Vec<u8>, clause: &[Lit]) -> Result<(), AllocError> {
     push_lits(text, clause)?;
     text.extend_from_slice(b"0\n")
 }
 
-/// Literals as DIMACS numbers, each with a space behind it.
+/// Appends literals as DIMACS numbers, each with a space after it.
 pub(crate) fn push_lits(text: &mut Vec<u8>, lits: &[Lit]) -> Result<(), AllocError> {
     let mut buffer = Buffer::new();
     for lit in lits {

@@ -1,29 +1,28 @@
-//! The literals that clauses force by themselves, and propagation of these. They stay true, since
-//! a clause that forces one is not deleted.
+//! Unit propagation at the top level. Literals stay true, since the reason of one is not deleted.
 use crate::fault::CutFault;
-use crate::slots::{Slot, Slots};
+use crate::slots::{Entry, Slot, Slots};
 use crate::watches::Watches;
 use clause_table::Values;
 use sat_formula::Lit;
 use std::alloc::Global;
 
-/// What a clause comes to under the true literals.
+/// The status of a clause under the assignment.
 enum Standing {
     True,
     False,
     Unit(Lit),
-    /// These two literals are not false.
-    Open(Lit, Lit),
+    /// These two literals are not false, and all others before this position are.
+    Open(Lit, Lit, usize),
 }
 
 /// The literals that are true.
 #[derive(Drop)]
 pub(crate) struct Units {
     values: Values,
-    /// How many literals came in clauses.
+    /// How many literals the attached clauses have.
     stored: u64,
     watches: Watches,
-    /// A clause is false.
+    /// Some clause is false.
     pub(crate) conflict: bool,
 }
 
@@ -37,31 +36,47 @@ impl Units {
         }
     }
 
-    /// What a clause comes to.
-    fn standing(&self, clause: &[Lit]) -> Standing {
-        let mut first = None;
-        let mut second = None;
-        for lit in clause {
-            if self.values.is_true(*lit) {
+    /// Returns the status of a clause, by its watched literals and those from its open position on.
+    fn standing(&self, entry: &Entry) -> Standing {
+        let mut kept = match entry.watched {
+            Some((first, second)) if self.values.is_true(!first) => self.unfalsified(second),
+            Some((first, _)) => Some(first),
+            None => None,
+        };
+        if let Some(lit) = kept {
+            if self.values.is_true(lit) {
                 return Standing::True;
             }
-            if self.values.is_true(!*lit) || first == Some(*lit) {
+        }
+        for place in entry.open_from..entry.lits.len() {
+            let lit = entry.lits[place];
+            if self.values.is_true(lit) {
+                return Standing::True;
+            }
+            if self.values.is_true(!lit) || kept == Some(lit) {
                 continue;
             }
-            if first.is_none() {
-                first = Some(*lit);
-            } else if second.is_none() {
-                second = Some(*lit);
+            match kept {
+                None => kept = Some(lit),
+                Some(first) => return Standing::Open(first, lit, place.saturating_add(1)),
             }
         }
-        match (first, second) {
-            (None, _) => Standing::False,
-            (Some(first), None) => Standing::Unit(first),
-            (Some(first), Some(second)) => Standing::Open(first, second),
+        match kept {
+            Some(lit) => Standing::Unit(lit),
+            None => Standing::False,
         }
     }
 
-    /// A clause comes in, and what it forces is propagated. After a conflict nothing is.
+    /// Returns a literal, if it is not false.
+    fn unfalsified(&self, lit: Lit) -> Option<Lit> {
+        if self.values.is_true(!lit) {
+            None
+        } else {
+            Some(lit)
+        }
+    }
+
+    /// Attaches a clause, and propagates what it implies, unless there was a conflict.
     pub(crate) fn attach(&mut self, slots: &mut Slots, slot: Slot) -> Result<(), CutFault> {
         if self.conflict {
             return Ok(());
@@ -75,7 +90,7 @@ impl Units {
         self.propagate(slots, from)
     }
 
-    /// A clause that forces nothing goes.
+    /// Removes the watches of a clause that is no reason.
     pub(crate) fn detach(&mut self, slots: &Slots, slot: Slot) {
         let Some(entry) = slots.get(slot) else {
             return;
@@ -86,21 +101,23 @@ impl Units {
         }
     }
 
-    /// A clause that is not watched is, where it is open; it forces its literal where it is unit.
+    /// Watches a clause that is not watched, if it is open, or assigns its literal, if it is unit.
     fn settle(&mut self, slots: &mut Slots, slot: Slot) -> Result<(), CutFault> {
         let Some(entry) = slots.get_mut(slot) else {
             return Ok(());
         };
+        let standing = self.standing(entry);
         entry.watched = None;
-        match self.standing(&entry.lits) {
+        match standing {
             Standing::True => {}
             Standing::False => self.conflict = true,
             Standing::Unit(lit) => {
                 entry.is_reason = true;
                 self.values.set(lit)?;
             }
-            Standing::Open(first, second) => {
+            Standing::Open(first, second, place) => {
                 entry.watched = Some((first, second));
+                entry.open_from = place;
                 self.watches.push(first, slot)?;
                 self.watches.push(second, slot)?;
             }
@@ -108,7 +125,7 @@ impl Units {
         Ok(())
     }
 
-    /// Propagates the true literals from a place on.
+    /// Propagates the trail from a position on.
     fn propagate(&mut self, slots: &mut Slots, from: usize) -> Result<(), CutFault> {
         // A literal becomes true once, since a clause forces none that has a value.
         for place in from..usize::MAX {
@@ -138,7 +155,7 @@ impl Units {
         Ok(())
     }
 
-    /// A clause that watched this literal is not watched by its other one either.
+    /// Removes the other watch of a clause that was watched by this literal.
     fn unwatch_other(&mut self, slots: &Slots, slot: Slot, lit: Lit) {
         let Some(entry) = slots.get(slot) else {
             return;

@@ -19,6 +19,7 @@ impl Watches {
         }
     }
 
+    /// Adds a clause to the list of a literal.
     pub(crate) fn push(&mut self, lit: Lit, slot: Slot) -> Result<(), AllocError> {
         if let Some(list) = self.lists.get_mut(&lit) {
             list.push(slot)?;
@@ -30,7 +31,7 @@ impl Watches {
         Ok(())
     }
 
-    /// Takes a clause out of the list of a literal.
+    /// Removes a clause from the list of a literal.
     pub(crate) fn remove(&mut self, lit: Lit, slot: Slot) {
         let Some(list) = self.lists.get_mut(&lit) else {
             return;
@@ -41,13 +42,13 @@ impl Watches {
         }
     }
 
-    /// Takes the list of a literal away.
+    /// Takes the list of a literal away and returns it, if there is one.
     pub(crate) fn take(&mut self, lit: Lit) -> Option<Vec<Slot>> {
         self.lists.remove(&lit)
     }
 }
 
-/// Takes the last place of a clause out of a list.
+/// Removes the last entry of a clause from a list.
 fn remove_from(list: &mut Vec<Slot>, slot: Slot) {
     for place in (0..list.len()).rev() {
         if list[place] == slot {

@@ -1,12 +1,15 @@
-//! The literals of the clauses that are there in one buffer, each clause behind its number and its
-//! length.
+//! The literals of the live clauses in one buffer, each clause after its number and its length.
+//!
+//! A long clause has a mark in place of the length, and after the mark its length and the place
+//! where a literal to watch was last found. The next search starts there: if the literals of a long
+//! clause become false one by one, each is visited once.
 use crate::clauses::{ClauseIndex, narrow};
 use crate::fault::ElaborateFault;
 use crate::local::LocalLit;
-use crate::room::Room;
+use crate::room::{LONG, Room};
 use std::alloc::Global;
 
-/// Where a clause begins in the arena.
+/// The position of a clause in the arena.
 #[derive(Clone, Copy, PartialEq, Eq)]
 pub(crate) struct Block(u32);
 
@@ -14,6 +17,11 @@ impl Block {
     /// All blocks begin below this place.
     const END: u32 = 1 << 31;
 
+    /// Returns the block at a position.
+    ///
+    /// # Errors
+    ///
+    /// `TooLong` from position 2^31 on.
     fn new(start: usize) -> Result<Block, ElaborateFault> {
         if start < Block::END as usize {
             Ok(Block(start as u32))
@@ -22,12 +30,12 @@ impl Block {
         }
     }
 
-    /// No block: none begins here.
+    /// Returns no block: none begins at its position.
     pub(crate) fn none() -> Block {
         Block(Block::END)
     }
 
-    /// The block, where it is one.
+    /// Returns the block, or `None` if it is no block.
     #[inline(always)]
     pub(crate) fn known(self) -> Option<Block> {
         if self.0 == Block::END {
@@ -37,29 +45,35 @@ impl Block {
         }
     }
 
+    /// Returns the position as a number of 32 bits.
     pub(crate) fn code(self) -> u32 {
         self.0
     }
 
-    /// The block of a code that was given by `code`.
+    /// Returns the block of a number that `code` returned.
     pub(crate) fn from_code(code: u32) -> Block {
         Block(code)
     }
 }
 
-/// The blocks. Propagation reads them alone. That of a clause that goes is used again.
+/// The blocks. Propagation reads nothing else. The block of a deleted clause is reused.
 #[derive(Drop)]
 pub(crate) struct Arena {
-    /// Of each clause its number and its length, each as the code of a literal, then its literals.
+    /// Of each clause its number and its length, each as the code of a literal, then its literals;
+    /// of a long one its number, `IS_LONG`, its length, a place and its literals.
     words: Vec<LocalLit>,
-    /// For each room the last block of it that became free, which has the one before it in place
-    /// of a number.
+    /// For each size class the last block of it that became free. In place of a number it has the
+    /// one that became free before it.
     free: Vec<Block>,
 }
 
 impl Arena {
     /// No clause has a number with this bit.
     const MARK: u32 = 1 << 31;
+
+    /// The mark in place of the length of a long clause. There are at most this many words, so no
+    /// clause has this length.
+    const IS_LONG: u32 = u32::MAX;
 
     pub(crate) fn new(alloc: Global) -> Arena {
         Arena {
@@ -68,7 +82,8 @@ impl Arena {
         }
     }
 
-    /// Stores a clause under its number.
+    /// Stores a clause under its number, in a free block of its size class if there is one. Returns
+    /// its block.
     pub(crate) fn push(
         &mut self,
         clause: ClauseIndex,
@@ -85,7 +100,7 @@ impl Arena {
         }
     }
 
-    /// Stores a clause behind all others.
+    /// Stores a clause after all others. Returns its block.
     fn append(
         &mut self,
         room: Room,
@@ -95,8 +110,15 @@ impl Arena {
     ) -> Result<Block, ElaborateFault> {
         let block = Block::new(self.words.len())?;
         let end = self.words.len().saturating_add(room.words());
+        narrow(end)?;
         self.words.push(LocalLit::from_code(clause.number()))?;
-        self.words.push(LocalLit::from_code(len))?;
+        if lits.len() >= LONG {
+            self.words.push(LocalLit::from_code(Arena::IS_LONG))?;
+            self.words.push(LocalLit::from_code(len))?;
+            self.words.push(LocalLit::from_code(0))?;
+        } else {
+            self.words.push(LocalLit::from_code(len))?;
+        }
         self.words.extend_from_slice(lits)?;
         if self.words.len() < end {
             self.words.resize(end, LocalLit::from_code(0))?;
@@ -104,7 +126,7 @@ impl Arena {
         Ok(block)
     }
 
-    /// Stores a clause in a block of its room.
+    /// Stores a clause in a block of its size class.
     fn fill(
         &mut self,
         block: Block,
@@ -120,14 +142,22 @@ impl Arena {
             return Err(ElaborateFault::Internal);
         };
         *number = LocalLit::from_code(clause.number());
-        *count = LocalLit::from_code(len);
-        for (word, lit) in rest.iter_mut().zip(lits) {
-            *word = *lit;
+        if lits.len() < LONG {
+            *count = LocalLit::from_code(len);
+            copy(lits, rest);
+            return Ok(());
         }
+        *count = LocalLit::from_code(Arena::IS_LONG);
+        let [count, place, rest @ ..] = rest else {
+            return Err(ElaborateFault::Internal);
+        };
+        *count = LocalLit::from_code(len);
+        *place = LocalLit::from_code(0);
+        copy(lits, rest);
         Ok(())
     }
 
-    /// A block of a room that became free, if there is one.
+    /// Returns a free block of a size class and takes it off the list, if there is one.
     fn take_free(&mut self, room: Room) -> Option<Block> {
         let head = self.free.get_mut(room.class())?;
         let block = *head;
@@ -136,7 +166,7 @@ impl Arena {
         Some(block)
     }
 
-    /// The clause of a block is not there any more.
+    /// Puts the block of a clause on the free list of its size class.
     pub(crate) fn free(&mut self, block: Block) -> Result<(), ElaborateFault> {
         let class = Room::of(self.lits(block)?.len()).class();
         if self.free.len() <= class {
@@ -154,7 +184,7 @@ impl Arena {
         }
     }
 
-    /// Marks a block, or takes the mark off. While it is marked its number is that of no clause.
+    /// Marks a block, or removes the mark. While it is marked, no clause has its number.
     pub(crate) fn turn_mark(&mut self, block: Block) -> Result<(), ElaborateFault> {
         match self.words.get_mut(block.0 as usize) {
             Some(word) => {
@@ -165,7 +195,7 @@ impl Arena {
         }
     }
 
-    /// The number of a clause.
+    /// Returns the number of a clause.
     pub(crate) fn clause(&self, block: Block) -> Result<ClauseIndex, ElaborateFault> {
         match self.words.get(block.0 as usize) {
             Some(word) => Ok(ClauseIndex::from_number(word.code())),
@@ -173,24 +203,25 @@ impl Arena {
         }
     }
 
-    /// The literals of a clause, in the order in which they are watched.
+    /// Returns the literals of a clause, in the order in which they are watched.
     #[inline(always)]
     pub(crate) fn lits(&self, block: Block) -> Result<&[LocalLit], ElaborateFault> {
         match self.words.get(block.0 as usize..) {
-            Some([_, len, rest @ ..]) => {
-                rest.get(..len.code() as usize)
-                    .ok_or(ElaborateFault::Internal)
-            }
+            Some([_, len, rest @ ..]) => match rest.get(..len.code() as usize) {
+                Some(lits) => Ok(lits),
+                None => long_lits(rest),
+            },
             _ => Err(ElaborateFault::Internal),
         }
     }
 
-    /// All the words.
+    /// Returns all the words, as `lits` reads them.
     #[inline(always)]
     pub(crate) fn words_mut(&mut self) -> &mut [LocalLit] {
         self.words.as_mut_slice()
     }
 
+    /// Returns the literals of a clause, so that they can be permuted.
     #[inline(always)]
     pub(crate) fn lits_mut(&mut self, block: Block) -> Result<&mut [LocalLit], ElaborateFault> {
         let start = block.0 as usize;
@@ -203,10 +234,45 @@ impl Arena {
                 if len <= rest.len() {
                     Ok(&mut rest[..len])
                 } else {
-                    Err(ElaborateFault::Internal)
+                    long_lits_mut(rest)
                 }
             }
             _ => Err(ElaborateFault::Internal),
         }
+    }
+}
+
+/// Copies literals to the beginning of the words.
+fn copy(lits: &[LocalLit], words: &mut [LocalLit]) {
+    for (word, lit) in words.iter_mut().zip(lits) {
+        *word = *lit;
+    }
+}
+
+/// Returns the literals of a long clause. The words are those after its mark.
+#[inline(never)]
+fn long_lits(words: &[LocalLit]) -> Result<&[LocalLit], ElaborateFault> {
+    match words {
+        [len, _, rest @ ..] => {
+            rest.get(..len.code() as usize)
+                .ok_or(ElaborateFault::Internal)
+        }
+        _ => Err(ElaborateFault::Internal),
+    }
+}
+
+/// Returns what `long_lits` does, so that the literals can be permuted.
+#[inline(never)]
+fn long_lits_mut(words: &mut [LocalLit]) -> Result<&mut [LocalLit], ElaborateFault> {
+    match words {
+        [len, _, rest @ ..] => {
+            let len = len.code() as usize;
+            if len <= rest.len() {
+                Ok(&mut rest[..len])
+            } else {
+                Err(ElaborateFault::Internal)
+            }
+        }
+        _ => Err(ElaborateFault::Internal),
     }
 }

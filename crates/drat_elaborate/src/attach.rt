@@ -1,4 +1,4 @@
-//! A clause comes into the propagator, and goes.
+//! Clauses are attached to the propagator and detached from it.
 use crate::arena::Block;
 use crate::clauses::{Clause, ClauseIndex, Use};
 use crate::fault::ElaborateFault;
@@ -18,14 +18,14 @@ impl Propagator {
         lists.push(second, Watch::new(block, first, is_binary))
     }
 
-    /// Watches the first two literals of a clause no longer.
+    /// Removes the watches of a clause's first two literals.
     pub(crate) fn unwatch(&mut self, clause: &Clause) -> Result<(), ElaborateFault> {
         let (first, second, _) = self.watched(clause.block)?;
         self.unwatch_by(clause, first)?;
         self.unwatch_by(clause, second)
     }
 
-    /// The watched literals, and whether the clause has no more.
+    /// Returns the watched literals, and whether the clause has no more.
     pub(crate) fn watched(
         &self,
         block: Block,
@@ -36,7 +36,7 @@ impl Propagator {
         }
     }
 
-    /// The watches of the clauses that are used so much.
+    /// Returns the watch lists of the clauses with this use.
     pub(crate) fn lists_of(&mut self, used: Use) -> &mut Watches {
         match used {
             Use::Never | Use::Wanted => &mut self.unused,
@@ -45,7 +45,7 @@ impl Propagator {
         }
     }
 
-    /// The clause is used from here on. The answer is whether it was not before.
+    /// Notes that the clause is used in this round. Returns whether it was never used before.
     #[inline(always)]
     pub(crate) fn make_core(&mut self, clause: ClauseIndex) -> Result<bool, ElaborateFault> {
         let found = self.clauses.get_mut(clause)?;
@@ -57,8 +57,8 @@ impl Propagator {
         self.watch_lately(clause, used)
     }
 
-    /// A watched clause that was not used lately is watched among those that were. The answer is
-    /// whether it was never used.
+    /// Moves the watches of a clause to the lists of those that were used lately. Returns whether
+    /// it was never used before.
     fn watch_lately(&mut self, clause: ClauseIndex, used: Use) -> Result<bool, ElaborateFault> {
         self.recent.remove(clause);
         self.change_use(clause, Use::Now)?;
@@ -66,7 +66,7 @@ impl Propagator {
         Ok(used == Use::Never)
     }
 
-    /// A watched clause is watched among others that are used so much.
+    /// Moves the watches of a clause to the lists of those with this use.
     fn change_use(&mut self, clause: ClauseIndex, used: Use) -> Result<(), ElaborateFault> {
         let mut found = *self.clauses.get(clause)?;
         self.unwatch(&found)?;
@@ -75,8 +75,8 @@ impl Propagator {
         self.watch(&found)
     }
 
-    /// Ends a round of checks. Clauses that were used neither in it nor in the one before are
-    /// among those that were used before.
+    /// Ends a round of checks. Clauses that were used neither in it nor in the one before move to
+    /// those that were used before.
     pub(crate) fn end_round(&mut self) -> Result<(), ElaborateFault> {
         let mut kept = 0;
         for place in 0..self.used_lately.len() {
@@ -94,7 +94,7 @@ impl Propagator {
         Ok(())
     }
 
-    /// Whether a clause stays among those that were used lately.
+    /// Returns whether a clause stays among those that were used lately.
     fn is_kept(&mut self, clause: ClauseIndex) -> Result<bool, ElaborateFault> {
         let found = self.clauses.get_mut(clause)?;
         if !found.is_active {
@@ -109,7 +109,7 @@ impl Propagator {
         Ok(false)
     }
 
-    /// A clause is not there any more; its block is. The answer is what was known of it.
+    /// Removes the watches of a clause that is deleted; it keeps its block. Returns its entry.
     pub(crate) fn detach(&mut self, clause: ClauseIndex) -> Result<Clause, ElaborateFault> {
         let found = self.clauses.get_mut(clause)?;
         found.is_active = false;
@@ -121,7 +121,7 @@ impl Propagator {
         Ok(found)
     }
 
-    /// A clause that was deleted is there again.
+    /// Undoes a deletion: the clause is live again.
     pub(crate) fn restore(&mut self, clause: ClauseIndex) -> Result<(), ElaborateFault> {
         let found = self.clauses.restore(clause)?;
         if found.is_watched {
@@ -134,7 +134,7 @@ impl Propagator {
         Ok(())
     }
 
-    /// Whether the clause forced a literal that is true.
+    /// Returns whether the clause is the reason of a literal on the trail.
     pub(crate) fn is_reason(&self, clause: ClauseIndex) -> Result<bool, ElaborateFault> {
         let block = self.clauses.get(clause)?.block;
         let lits = self.clauses.arena.lits(block)?;
@@ -145,8 +145,8 @@ impl Propagator {
         )
     }
 
-    /// Attaches a clause under the literals that are true now, and propagates. The answer is the
-    /// clause of a conflict.
+    /// Attaches a clause under the present assignment and propagates. Returns the clause of a
+    /// conflict, if there is one.
     pub(crate) fn attach(&mut self, clause: ClauseIndex) -> Result<Option<Block>, ElaborateFault> {
         let found = *self.clauses.get(clause)?;
         if found.is_tautology {
@@ -176,7 +176,7 @@ impl Propagator {
     }
 }
 
-/// Puts the two literals first that are best to be watched. While all are free, any two are.
+/// Moves the two best literals to watch to the front. If all are unassigned, any two are.
 fn choose_watches(lits: &mut [LocalLit], trail: &Trail) {
     if trail.len() == 0 {
         return;
@@ -189,7 +189,7 @@ fn choose_watches(lits: &mut [LocalLit], trail: &Trail) {
     }
 }
 
-/// The place of the best literal from a place on.
+/// Returns the position of the best literal to watch from a position on.
 fn best_from(lits: &[LocalLit], first: usize, trail: &Trail) -> usize {
     let mut best = first;
     let mut best_rank = 0;

@@ -1,4 +1,4 @@
-//! The backward pass: what the conflict needs is checked, the last step first.
+//! The backward pass: the clauses that the conflict needs are checked, the last step first.
 use crate::arena::Block;
 use crate::check::Check;
 use crate::clauses::{ClauseIndex, ClauseLink, Use};
@@ -26,7 +26,7 @@ pub(crate) struct Backward {
     pub(crate) given: GivenHints,
     /// The witnesses that it gives.
     pub(crate) witnesses: Witnesses,
-    /// Where literals stand, once a clause is checked that does not follow.
+    /// The occurrences of literals, once a clause is checked for redundancy.
     occurrences: Option<Occurrences>,
     /// The literals of that clause.
     lits: Vec<LocalLit>,
@@ -55,7 +55,7 @@ impl Backward {
         }
     }
 
-    /// The line of the empty clause. Where the proof adds it itself, it is checked as a step.
+    /// Records the line of the empty clause. If the proof adds it itself, it is checked as a step.
     pub(crate) fn begin(
         &mut self,
         propagator: &mut Propagator,
@@ -74,12 +74,13 @@ impl Backward {
         self.record(ClauseLink::none())
     }
 
-    /// No line of the empty clause: clauses are wanted that are used already.
+    /// Begins a piece of a proof, without a line of the empty clause: the target clauses are marked
+    /// as used already.
     pub(crate) fn begin_piece(&mut self, formula_len: usize) {
         self.formula_len = formula_len;
     }
 
-    /// Gives back the memory that is of use only while clauses are checked.
+    /// Frees the memory that only checks need.
     pub(crate) fn end(&mut self) {
         self.check = Check::new(self.alloc);
         self.given = GivenHints::new(self.alloc);
@@ -87,7 +88,7 @@ impl Backward {
         self.lits = Vec::new(self.alloc);
     }
 
-    /// Goes back over the last of the steps, which is taken off. Nothing where there is none.
+    /// Takes the last step off and undoes it. Does nothing if no step is left.
     pub(crate) fn undo_last(
         &mut self,
         propagator: &mut Propagator,
@@ -104,8 +105,12 @@ impl Backward {
         }
     }
 
-    /// The clause that the last step added is not there any more, and the trail is as it was before
-    /// it. Where the clause is used, it is checked.
+    /// Undoes the addition of a clause: deletes it and restores the trail, and checks the clause if
+    /// it is used.
+    ///
+    /// # Errors
+    ///
+    /// `NotRedundant` or `NotRedundantByWitness` if the check fails.
     fn undo_addition(
         &mut self,
         propagator: &mut Propagator,
@@ -122,12 +127,13 @@ impl Backward {
                 return Err(self.refusal(clause, steps.len().saturating_add(1)));
             }
             self.checked = self.checked.saturating_add(1);
+            self.enter_fresh(propagator)?;
             self.record(ClauseLink::to(clause))?;
         }
         propagator.clauses.free(clause)
     }
 
-    /// Why the step that adds a clause is wrong.
+    /// Returns why the step that adds a clause is rejected.
     fn refusal(&self, clause: ClauseIndex, step: u64) -> ElaborateFault {
         match self.witnesses.of(clause) {
             Some(_) => ElaborateFault::NotRedundantByWitness { step },
@@ -135,8 +141,8 @@ impl Backward {
         }
     }
 
-    /// Whether a clause follows, or is redundant by its witness or its pivot. The hints are left in
-    /// the check.
+    /// Returns whether a clause follows, or is redundant by its witness or on its pivot. The hints
+    /// are left in the check.
     fn check_clause(
         &mut self,
         propagator: &mut Propagator,
@@ -157,7 +163,7 @@ impl Backward {
         Ok(is_accepted)
     }
 
-    /// Another clause is checked. After this many a round ends.
+    /// Counts a check, and ends the round after the last of it.
     fn count_check(&mut self, propagator: &mut Propagator) -> Result<(), ElaborateFault> {
         self.in_round = self.in_round.saturating_add(1);
         if self.in_round == CHECKS_A_ROUND {
@@ -167,8 +173,8 @@ impl Backward {
         Ok(())
     }
 
-    /// Assumes the negated literals of a clause. The answer is the clause of a conflict, by the
-    /// hints that are given, or else by propagation.
+    /// Assumes the negated literals of a clause. Returns the clause of a conflict, by the given
+    /// hints or else by propagation.
     fn refute(
         &mut self,
         propagator: &mut Propagator,
@@ -187,6 +193,8 @@ impl Backward {
         self.check.refute(propagator, clause)
     }
 
+    /// Returns whether a clause that does not follow is redundant by its witness, or on its pivot.
+    /// The hints are left in the check.
     fn check_redundant(
         &mut self,
         propagator: &mut Propagator,
@@ -199,23 +207,32 @@ impl Backward {
         let witness = self.witnesses.of(clause).unwrap_or(pivot);
         // The first such clause comes behind the others: what is collected for it serves them too.
         if self.occurrences.is_none() {
-            let (clauses, lit_count) = (&propagator.clauses, propagator.trail.lit_count());
-            self.occurrences = Some(Occurrences::collect(self.alloc, clauses, clause, lit_count)?);
+            let clauses = &propagator.clauses;
+            self.occurrences = Some(Occurrences::collect(self.alloc, clauses, clause)?);
         }
-        match &self.occurrences {
-            Some(occurrences) => is_redundant(
-                self.alloc,
-                propagator,
-                &mut self.check,
-                occurrences,
-                clause,
-                witness,
-            ),
+        match &mut self.occurrences {
+            Some(occurrences) => {
+                is_redundant(
+                    self.alloc,
+                    propagator,
+                    &mut self.check,
+                    occurrences,
+                    witness,
+                )
+            }
             None => Err(ElaborateFault::Internal),
         }
     }
 
-    /// Keeps what the check found.
+    /// Enters the occurrences of the clauses that the check used first, if any are kept.
+    fn enter_fresh(&mut self, propagator: &Propagator) -> Result<(), ElaborateFault> {
+        match &mut self.occurrences {
+            Some(occurrences) => { occurrences.enter_all(&propagator.clauses, &self.check.fresh) }
+            None => Ok(()),
+        }
+    }
+
+    /// Records the hints of the check and the clauses that it used first.
     fn record(&mut self, clause: ClauseLink) -> Result<(), ElaborateFault> {
         self.records.push(
             clause,

@@ -4,14 +4,14 @@ use std::alloc::{AllocError, Global};
 /// A number is in pieces of seven bits.
 pub(crate) const PIECE: u32 = 7;
 
-/// A piece that says that another one comes.
+/// The bit of a piece after which another one follows.
 pub(crate) const MORE: u8 = 1 << 7;
 
 /// A number of 32 bits has at most this many pieces.
 pub(crate) const MOST_PIECES: u32 = 5;
 
-/// Numbers, the last of which is taken first. Of each the highest piece is on top, and all but the
-/// lowest say that another one is below.
+/// Numbers, the last of which is taken first. The highest piece of each is on top, and all but the
+/// lowest are marked with `MORE`.
 #[derive(Drop)]
 pub(crate) struct ByteStack {
     bytes: Vec<u8>,
@@ -28,6 +28,7 @@ impl ByteStack {
         self.bytes.is_empty()
     }
 
+    /// Pushes a number. After an error the stack is unspecified.
     #[inline(always)]
     pub(crate) fn push(&mut self, number: u32) -> Result<(), AllocError> {
         self.bytes.push(piece(number))?;
@@ -42,7 +43,7 @@ impl ByteStack {
         Ok(())
     }
 
-    /// Takes the number off that came last; 0 where there is none.
+    /// Pops a number, and returns it; 0 if there is none.
     #[inline(always)]
     pub(crate) fn pop(&mut self) -> u32 {
         let mut number = 0u32;
@@ -57,7 +58,7 @@ impl ByteStack {
     }
 }
 
-/// The lowest seven bits.
+/// Returns the lowest seven bits.
 #[inline(always)]
 pub(crate) fn piece(number: u32) -> u8 {
     (number & 0x7f) as u8

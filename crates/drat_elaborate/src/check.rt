@@ -1,4 +1,4 @@
-//! The check of one clause by propagation, and the walk back from its conflict.
+//! The check of one clause by propagation, and conflict analysis.
 use crate::arena::Block;
 use crate::clauses::ClauseIndex;
 use crate::fault::ElaborateFault;
@@ -10,7 +10,7 @@ use crate::records::PackedHint;
 use crate::trail::{Trail, Value};
 use std::alloc::Global;
 
-/// Which literals are true by assumption, besides the negated literals of the clause.
+/// Which literals are assumed in addition to the negated literals of the clause.
 #[derive(Clone, Copy, PartialEq, Eq)]
 pub(crate) enum Assumed {
     Clause,
@@ -18,7 +18,7 @@ pub(crate) enum Assumed {
     Group,
 }
 
-/// Whether places that were gone through are wanted still.
+/// Whether visited positions stay marked.
 #[derive(Clone, Copy, PartialEq, Eq)]
 pub(crate) enum After {
     Keep,
@@ -34,14 +34,14 @@ pub(crate) struct Check {
     pub(crate) by_group: LitSet,
     /// The literals by which the clause may be redundant.
     pub(crate) by_witness: LitSet,
-    /// The places of the trail whose reasons are wanted.
+    /// The positions of the trail whose reasons are needed.
     pub(crate) wanted: PlaceSet,
     /// The hints before the groups, the last one first.
     pub(crate) leading: Vec<ClauseIndex>,
     pub(crate) groups: Vec<PackedHint>,
     /// The clauses that were not used before.
     pub(crate) fresh: Vec<ClauseIndex>,
-    /// The reasons of a walk, from the conflict on.
+    /// The reasons that an analysis found, from the conflict on.
     walked: Vec<ClauseIndex>,
 }
 
@@ -59,7 +59,7 @@ impl Check {
         }
     }
 
-    /// Nothing is assumed or found yet.
+    /// Clears the assumptions and the hints.
     pub(crate) fn start(&mut self) -> Result<(), ElaborateFault> {
         self.by_clause.clear()?;
         self.leading.clear();
@@ -68,8 +68,8 @@ impl Check {
         Ok(())
     }
 
-    /// Assumes the negated literals of a clause, and propagates. The answer is the clause of a
-    /// conflict, or the reason of a literal of the clause that is true already.
+    /// Assumes the negated literals of a clause and propagates. Returns the clause of a conflict,
+    /// or the reason of a literal of the clause that is true already.
     pub(crate) fn refute(
         &mut self,
         propagator: &mut Propagator,
@@ -83,8 +83,8 @@ impl Check {
         propagator.propagate(end)
     }
 
-    /// Assumes the negated literals of a clause. The answer is the reason of a literal of the
-    /// clause that is true already.
+    /// Assumes the negated literals of a clause. Returns the reason of a literal of the clause that
+    /// is true already, if there is one.
     pub(crate) fn assume(
         &mut self,
         propagator: &mut Propagator,
@@ -108,7 +108,7 @@ impl Check {
         Ok(None)
     }
 
-    /// The leading hints that come to the conflict in a clause.
+    /// Finds the leading hints that lead to a conflict in a clause.
     pub(crate) fn explain(
         &mut self,
         propagator: &mut Propagator,
@@ -121,7 +121,7 @@ impl Check {
         self.explain_wanted(propagator)
     }
 
-    /// The leading hints that force what is wanted on the trail.
+    /// Finds the leading hints that imply the marked literals of the trail.
     pub(crate) fn explain_wanted(
         &mut self,
         propagator: &mut Propagator,
@@ -131,7 +131,8 @@ impl Check {
         Ok(())
     }
 
-    /// The hints of a group that come to the conflict in a clause, beyond the trail up to a place.
+    /// Finds the hints of a RAT candidate that lead to a conflict in a clause, beyond the trail up
+    /// to a position.
     pub(crate) fn explain_group(
         &mut self,
         propagator: &mut Propagator,
@@ -149,7 +150,7 @@ impl Check {
         Ok(())
     }
 
-    /// A clause is a hint. The answer is its number.
+    /// Marks a clause as used. Returns its number.
     #[inline(always)]
     fn use_clause(
         &mut self,
@@ -163,7 +164,7 @@ impl Check {
         Ok(clause)
     }
 
-    /// The place of the variable of a literal is wanted.
+    /// Marks the position of a literal's variable on the trail.
     pub(crate) fn want(
         &mut self,
         propagator: &Propagator,
@@ -174,8 +175,8 @@ impl Check {
         Ok(())
     }
 
-    /// The places of a clause's literals are wanted, besides those whose negations the candidate
-    /// assumes.
+    /// Marks the positions of a clause's literals, except those whose negations are assumed for the
+    /// candidate.
     #[inline(always)]
     fn want_negated(
         &mut self,
@@ -190,7 +191,7 @@ impl Check {
         }
     }
 
-    /// The places of literals are wanted.
+    /// Marks the positions of literals.
     #[inline(always)]
     fn want_all(&mut self, trail: &Trail, lits: &[LocalLit]) -> Result<(), ElaborateFault> {
         for lit in lits {
@@ -199,7 +200,7 @@ impl Check {
         Ok(())
     }
 
-    /// The places of literals whose negations the candidate does not assume are wanted.
+    /// Marks the positions of literals whose negations are not assumed for the candidate.
     fn want_ungrouped(&mut self, trail: &Trail, lits: &[LocalLit]) -> Result<(), ElaborateFault> {
         for lit in lits {
             if !self.by_group.contains(!*lit) {
@@ -209,8 +210,8 @@ impl Check {
         Ok(())
     }
 
-    /// Goes through the wanted places from a place on, the last first. What forced them is walked,
-    /// and wants what it needs in turn.
+    /// Visits the marked positions from one on, the last first, and collects the reason of each,
+    /// whose literals it marks in turn.
     pub(crate) fn walk(
         &mut self,
         propagator: &mut Propagator,
@@ -243,7 +244,7 @@ impl Check {
         Ok(())
     }
 
-    /// Goes through the wanted places of a word. The answer is which there were.
+    /// Visits the marked positions of a word. Returns which were marked.
     fn walk_word(
         &mut self,
         propagator: &mut Propagator,
@@ -266,6 +267,8 @@ impl Check {
         Ok(done)
     }
 
+    /// Visits a position: collects the reason of its literal, if it has one, and marks the literals
+    /// of that.
     fn walk_place(
         &mut self,
         propagator: &mut Propagator,

@@ -1,4 +1,4 @@
-//! The clauses: their literals, and what is known of each.
+//! The clauses: their literals and their states.
 use crate::arena::{Arena, Block};
 use crate::fault::ElaborateFault;
 use crate::local::LocalLit;
@@ -13,6 +13,11 @@ impl ClauseIndex {
     /// There are at most this many clauses.
     const MAX_COUNT: usize = 0x4000_0000;
 
+    /// Returns the number of the clause with this index.
+    ///
+    /// # Errors
+    ///
+    /// `TooLong` from `MAX_COUNT` on.
     pub(crate) fn new(index: usize) -> Result<ClauseIndex, ElaborateFault> {
         if index < ClauseIndex::MAX_COUNT {
             Ok(ClauseIndex(index as u32))
@@ -21,16 +26,17 @@ impl ClauseIndex {
         }
     }
 
+    /// Returns the index.
     pub(crate) fn get(self) -> usize {
         self.0 as usize
     }
 
-    /// The number itself.
+    /// Returns the index as a number of 32 bits.
     pub(crate) fn number(self) -> u32 {
         self.0
     }
 
-    /// The clause of a number that was given by `number`.
+    /// Returns the clause of a number that `number` returned.
     pub(crate) fn from_number(number: u32) -> ClauseIndex {
         ClauseIndex(number)
     }
@@ -44,24 +50,27 @@ impl ClauseLink {
     /// No clause has this number.
     const NONE: u32 = u32::MAX;
 
+    /// Returns the link to no clause.
     pub(crate) fn none() -> ClauseLink {
         ClauseLink(ClauseLink::NONE)
     }
 
+    /// Returns the link to a clause.
     pub(crate) fn to(clause: ClauseIndex) -> ClauseLink {
         ClauseLink(clause.0)
     }
 
-    /// The number itself; that of no clause is the highest one.
+    /// Returns the number of the clause; that of no clause is the highest one.
     pub(crate) fn number(self) -> u32 {
         self.0
     }
 
-    /// The link of a number that was given by `number`.
+    /// Returns the link of a number that `number` returned.
     pub(crate) fn from_number(number: u32) -> ClauseLink {
         ClauseLink(number)
     }
 
+    /// Returns the clause, if there is one.
     #[inline(always)]
     pub(crate) fn get(self) -> Option<ClauseIndex> {
         if self.0 == ClauseLink::NONE {
@@ -76,7 +85,7 @@ impl ClauseLink {
 #[derive(Clone, Copy, PartialEq, Eq)]
 pub(crate) enum Use {
     Never,
-    /// It was not used either, but it is wanted behind the last step.
+    /// It was not used, but it is a target clause of the piece.
     Wanted,
     /// It was not used in the last round of checks.
     Before,
@@ -87,7 +96,7 @@ pub(crate) enum Use {
 }
 
 impl Use {
-    /// Whether clauses that are used so much are watched in the same lists.
+    /// Returns whether clauses of the two uses are watched in the same lists.
     pub(crate) fn shares_lists(self, other: Use) -> bool {
         match self {
             Use::Never | Use::Wanted => other == Use::Never || other == Use::Wanted,
@@ -97,30 +106,30 @@ impl Use {
     }
 }
 
-/// What is known of a clause besides its literals.
+/// The state of a clause.
 #[derive(Clone, Copy)]
 pub(crate) struct Clause {
-    /// That of the clause while it is there; else none.
+    /// Its block while it is live; else none.
     pub(crate) block: Block,
-    /// Where it is kept as it was written.
+    /// The position of its literals as they were written.
     written: u32,
     /// The next clause of the same bucket.
     pub(crate) next: ClauseLink,
     pub(crate) used: Use,
-    /// It is there at the step where the elaborator stands.
+    /// It is live at the present step.
     pub(crate) is_active: bool,
-    /// Its first two literals are watched while it is there.
+    /// Its first two literals are watched while it is live.
     pub(crate) is_watched: bool,
     pub(crate) is_tautology: bool,
 }
 
 impl Clause {
-    /// Whether it is wanted, or used by the conflict or by a clause that is in the core.
+    /// Returns whether it is a target clause, or used by the conflict or by a clause of the core.
     pub(crate) fn is_core(&self) -> bool {
         self.used != Use::Never
     }
 
-    /// Whether it is there and used, so that a redundant clause is checked against it.
+    /// Returns whether it is live and used, so that RAT and PR checks have to visit it.
     pub(crate) fn is_candidate(&self) -> bool {
         self.is_active && self.is_core() && !self.is_tautology
     }
@@ -130,11 +139,11 @@ impl Clause {
 #[derive(Drop)]
 pub(crate) struct Clauses {
     alloc: Global,
-    /// Those that are there.
+    /// The live clauses.
     pub(crate) arena: Arena,
     written: Written,
     table: Vec<Clause>,
-    /// The literals of a clause that is there again.
+    /// The literals of a clause that is restored.
     restored: Vec<LocalLit>,
 }
 
@@ -149,16 +158,17 @@ impl Clauses {
         }
     }
 
-    /// Gives back the memory of the blocks.
+    /// Frees the memory of the blocks.
     pub(crate) fn end(&mut self) {
         self.arena = Arena::new(self.alloc);
     }
 
+    /// Returns how many clauses were stored.
     pub(crate) fn len(&self) -> usize {
         self.table.len()
     }
 
-    /// Stores a clause, which is there from now on.
+    /// Stores a clause, which is live from now on. Returns its number.
     pub(crate) fn push(
         &mut self,
         lits: &[LocalLit],
@@ -179,12 +189,17 @@ impl Clauses {
         Ok(index)
     }
 
-    /// What is known of a clause.
+    /// Returns the state of a clause.
+    ///
+    /// # Errors
+    ///
+    /// `Internal` if there is no such clause.
     #[inline(always)]
     pub(crate) fn get(&self, clause: ClauseIndex) -> Result<&Clause, ElaborateFault> {
         self.table.get(clause.get()).ok_or(ElaborateFault::Internal)
     }
 
+    /// Returns the state of a clause, to be changed. Fails as `get` does.
     #[inline(always)]
     pub(crate) fn get_mut(&mut self, clause: ClauseIndex) -> Result<&mut Clause, ElaborateFault> {
         self.table
@@ -192,7 +207,7 @@ impl Clauses {
             .ok_or(ElaborateFault::Internal)
     }
 
-    /// The literals of a clause that is there, in the order in which they are watched.
+    /// Returns the literals of a live clause, in the order in which they are watched.
     pub(crate) fn lits(&self, clause: ClauseIndex) -> Result<&[LocalLit], ElaborateFault> {
         self.arena.lits(self.get(clause)?.block)
     }
@@ -208,7 +223,7 @@ impl Clauses {
         Ok(())
     }
 
-    /// The block of a clause that is not there any more may be used again.
+    /// Frees the block of a deleted clause.
     pub(crate) fn free(&mut self, clause: ClauseIndex) -> Result<(), ElaborateFault> {
         let block = self.get(clause)?.block;
         self.arena.free(block)?;
@@ -216,7 +231,7 @@ impl Clauses {
         Ok(())
     }
 
-    /// A clause that has no block gets one.
+    /// Stores a deleted clause in a block again. Returns its state.
     pub(crate) fn restore(&mut self, clause: ClauseIndex) -> Result<Clause, ElaborateFault> {
         let written = self.get(clause)?.written;
         self.written.read(written, &mut self.restored)?;
@@ -228,7 +243,11 @@ impl Clauses {
     }
 }
 
-/// A number of 32 bits.
+/// Returns the number in 32 bits.
+///
+/// # Errors
+///
+/// `TooLong` from 2^32 on.
 pub(crate) fn narrow(number: usize) -> Result<u32, ElaborateFault> {
     u32::try_from(number).map_err(|_| ElaborateFault::TooLong)
 }

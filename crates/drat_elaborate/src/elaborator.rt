@@ -9,7 +9,7 @@ use lrat_text::LratLine;
 use sat_formula::Lit;
 use std::alloc::Global;
 
-/// How far the elaborator has come.
+/// The phase of an elaborator.
 #[derive(Clone, Copy, PartialEq, Eq)]
 enum Phase {
     Formula,
@@ -23,11 +23,14 @@ enum Phase {
 /// Clauses of the formula come first, by [`add_clause`](Elaborator::add_clause). Then the steps of
 /// the proof, until [`is_refuted`](Elaborator::is_refuted). [`elaborate`](Elaborator::elaborate)
 /// checks backward which steps are needed, and why they follow, and
-/// [`next_line`](Elaborator::next_line) tells the lines. The clauses of the formula have the ids 1,
-/// 2 and so on in them. What the lines say is no more than a claim, which a checker of LRAT
-/// decides.
+/// [`next_line`](Elaborator::next_line) returns the lines, in which the clauses of the formula have
+/// the ids 1, 2 and so on. The lines are claims, which a checker of LRAT decides.
 ///
-/// After a fault the elaborator is of no use: later calls end, and what they answer says nothing.
+/// # Errors
+///
+/// Each call that fails can return `OutOfMemory`, `TooLong`, or `Internal` for a defect of the
+/// elaborator; its comment names the other faults. After an error later calls terminate, and their
+/// results are unspecified.
 #[derive(Drop)]
 pub struct Elaborator {
     phase: Phase,
@@ -38,7 +41,7 @@ pub struct Elaborator {
 }
 
 impl Elaborator {
-    /// No clause, and no step.
+    /// Returns an elaborator without clauses and steps. Allocates no memory.
     pub fn new(alloc: Global) -> Elaborator {
         Elaborator {
             phase: Phase::Formula,
@@ -51,7 +54,9 @@ impl Elaborator {
 
     /// Adds the next clause of the formula.
     ///
-    /// `Internal` where the proof has begun.
+    /// # Errors
+    ///
+    /// `Internal` if the proof has begun; the elaborator is as it was then.
     pub fn add_clause(&mut self, lits: &[Lit]) -> Result<(), ElaborateFault> {
         if self.phase != Phase::Formula {
             return Err(ElaborateFault::Internal);
@@ -59,8 +64,8 @@ impl Elaborator {
         self.forward.add_clause(lits)
     }
 
-    /// The formula is complete: its unit clauses are propagated. The first step of the proof does
-    /// this by itself.
+    /// Completes the formula and propagates its unit clauses. The first step of the proof does this
+    /// by itself, and a second call does nothing.
     pub fn begin_proof(&mut self) -> Result<(), ElaborateFault> {
         if self.phase != Phase::Formula {
             return Ok(());
@@ -69,8 +74,8 @@ impl Elaborator {
         self.forward.begin()
     }
 
-    /// The proof adds a clause, which claims to follow or to be redundant by its first literal.
-    /// After a conflict it is passed over.
+    /// Adds a clause of the proof, which should follow or be RAT on its first literal. It is not
+    /// checked yet. After a conflict it is ignored.
     pub fn add_lemma(&mut self, lits: &[Lit]) -> Result<(), ElaborateFault> {
         self.begin_proof()?;
         if self.is_refuted() {
@@ -79,8 +84,8 @@ impl Elaborator {
         self.forward.add_lemma(lits)
     }
 
-    /// The proof deletes a clause with these literals. It is counted and passed over where there is
-    /// none, or where each such clause forces a literal; and after a conflict it is passed over.
+    /// Deletes a clause with these literals, in any order. If there is none, or each such clause is
+    /// the reason of a literal, the step is counted and ignored; after a conflict it is ignored.
     pub fn delete_clause(&mut self, lits: &[Lit]) -> Result<(), ElaborateFault> {
         self.begin_proof()?;
         if self.is_refuted() {
@@ -89,20 +94,21 @@ impl Elaborator {
         self.forward.delete_clause(lits)
     }
 
-    /// Whether the clauses so far come to a conflict by propagation, once the proof has begun. Then
-    /// no further step is needed.
+    /// Returns whether propagation over the clauses so far has led to a conflict, once the proof
+    /// has begun. Then no further step is needed.
     pub fn is_refuted(&self) -> bool {
         self.forward.conflict.is_some()
     }
 
-    /// The steps are a piece of a proof: it need not come to a conflict, and the clauses that are
-    /// wanted behind it are checked.
+    /// Makes the steps a piece of a proof: it need not derive a conflict, and its target clauses
+    /// are checked.
     pub fn end_piece(&mut self) {
         self.wanted.is_piece = true;
     }
 
-    /// Wants a clause behind the last step. The answer is whether one with just these literals, in
-    /// any order, is there. After a conflict, and once the steps are checked, none is.
+    /// Makes a clause a target after the last step. Returns whether a clause with just these
+    /// literals, in any order, is live. After a conflict, and once the backward pass has begun, it
+    /// returns `false`.
     pub fn want(&mut self, lits: &[Lit]) -> Result<bool, ElaborateFault> {
         self.begin_proof()?;
         if self.phase != Phase::Proof || self.is_refuted() {
@@ -111,21 +117,25 @@ impl Elaborator {
         self.wanted.want(&mut self.forward, lits)
     }
 
-    /// The id of the clause that was wanted at a place, once all lines were told.
+    /// Returns the id of the target clause that `want` found at this index, the first being 0. To
+    /// be called once `next_line` has returned `None`; `None` if the clause has no id.
     pub fn wanted_id(&self, place: usize) -> Option<u64> {
         id_in(&self.lines.ids, self.wanted.get(place)?).ok()
     }
 
-    /// The id of the last clause that a line added, or else of the formula's last one.
+    /// Returns the id of the last clause that a line added, or else of the formula's last clause.
     pub fn last_id(&self) -> u64 {
         self.lines.last_id
     }
 
-    /// Checks the steps that the conflict needs, the last first. A call goes over as many steps as
-    /// it is told, and the answer is whether none is left; then the lines may be asked for.
+    /// Checks the steps that the conflict needs, the last first. A call undoes at most `count`
+    /// steps and returns whether none is left; then [`next_line`](Elaborator::next_line) has the
+    /// lines.
     ///
-    /// `NoConflict` where there is none, `NotRedundant` or `NotRedundantByWitness` with the first
-    /// needed clause, from the end, that is not redundant.
+    /// # Errors
+    ///
+    /// `NoConflict` if the steps are no piece and lead to no conflict, `NotRedundant` or
+    /// `NotRedundantByWitness` with the first needed clause, from the end, that is not redundant.
     pub fn elaborate(&mut self, count: u64) -> Result<bool, ElaborateFault> {
         self.begin_backward()?;
         for _ in 0..count {
@@ -144,7 +154,7 @@ impl Elaborator {
         Ok(true)
     }
 
-    /// The first call begins with the conflict.
+    /// Begins the backward pass with the conflict, in the first call.
     fn begin_backward(&mut self) -> Result<(), ElaborateFault> {
         self.begin_proof()?;
         if self.phase != Phase::Proof {
@@ -170,30 +180,35 @@ impl Elaborator {
         )
     }
 
-    /// The lines are those over a formula of the used clauses alone, which have the ids 1, 2 and so
-    /// on in their order: no line deletes the others. To be called before the first line is told.
+    /// Makes the lines refer to a formula of the used clauses alone, which have the ids 1, 2 and so
+    /// on in their order; no line deletes the others. To be called before the first `next_line`.
     pub fn number_by_use(&mut self) {
         self.lines.only_used = true;
     }
 
-    /// How many steps of the proof were taken in, less those that were gone over backward.
+    /// Returns how many steps of the proof were added and not undone yet by the backward pass.
     pub fn steps_left(&self) -> u64 {
         self.forward.steps.len()
     }
 
-    /// How many clauses that the proof adds were checked.
+    /// Returns how many clauses of the proof were checked.
     pub fn checked(&self) -> u64 {
         self.backward.checked
     }
 
-    /// The next line, after [`elaborate`](Elaborator::elaborate). Before it, and after the last
-    /// line, there is none. First the unused clauses of the formula are deleted, and each other
-    /// clause is right after the line that uses it last. The last line adds the empty clause. There
-    /// are at most two lines for each clause that the proof adds, and two more; and for one that is
-    /// redundant by a witness a line for each clause that the witness touches, or two, and one for
-    /// each literal of the witness, all over a variable above those of the formula and the proof.
+    /// Returns the next line, after [`elaborate`](Elaborator::elaborate) has returned `true`;
+    /// before that, and after the last line, `None`. The first line deletes the unused clauses of
+    /// the formula, and each other clause is deleted right after the line that uses it last. The
+    /// last line adds the empty clause, except in a piece.
     ///
-    /// `NoFreshVariable` where there is no such variable.
+    /// There are at most two lines for each clause of the proof, and two more. A clause with a
+    /// witness has up to two lines for each clause that the witness touches and one for each
+    /// literal of the witness, over a variable above those of the formula and the proof. A target
+    /// clause that is a tautology has three lines over such a variable, and one that deletes.
+    ///
+    /// # Errors
+    ///
+    /// `NoFreshVariable` if there is no such variable.
     pub fn next_line(&mut self) -> Result<Option<LratLine<'_>>, ElaborateFault> {
         if self.phase != Phase::Elaborated {
             return Ok(None);
@@ -208,7 +223,9 @@ impl Elaborator {
             }));
         }
         let (witnesses, records) = (&self.backward.witnesses, &mut self.backward.records);
-        if !self.lines.read(&self.forward, witnesses, records)? {
+        if !self.lines.read(&self.forward, witnesses, records)?
+            && !self.lines.tell_tautology(&self.forward, &mut self.wanted)?
+        {
             return Ok(None);
         }
         if self.lines.by_witness.queue.advance() {
@@ -221,7 +238,8 @@ impl Elaborator {
         }))
     }
 
-    /// Whether the elaborated proof uses a clause of the formula, the first of which has index 0.
+    /// Returns whether the elaborated proof uses the clause of the formula with this index, the
+    /// first being 0. `false` if there is no such clause.
     pub fn is_used(&self, index: usize) -> bool {
         match ClauseIndex::new(index) {
             Ok(clause) => match self.forward.propagator.clauses.get(clause) {
@@ -232,12 +250,12 @@ impl Elaborator {
         }
     }
 
-    /// How many deletions met no clause.
+    /// Returns how many deletions found no clause.
     pub fn missing_deletions(&self) -> u64 {
         self.forward.missing_deletions
     }
 
-    /// How many deletions met only clauses that force a literal, which were kept.
+    /// Returns how many deletions found only clauses that are reasons, which were kept.
     pub fn kept_reasons(&self) -> u64 {
         self.forward.kept_reasons
     }

@@ -2,17 +2,17 @@
 use std::alloc::{AllocError, AllocFailed};
 use thiserror::Error;
 
-/// Why a proof is not elaborated. Steps count from 1, deletions too.
+/// Why a proof is not elaborated. Steps count from 1, deletions included.
 #[derive(Clone, Copy, Debug, PartialEq, Eq, Error)]
 pub enum ElaborateFault {
-    /// There was no memory for what the formula and the proof say.
+    /// There was no memory.
     #[error("out of memory")]
     OutOfMemory,
-    /// There are more clauses, literals, steps or hints than are counted in 32 bits.
+    /// There are more clauses, literals, steps or hints than 32 bits can count.
     #[error("too long")]
     TooLong,
-    /// The clause that the step adds is used, and neither follows by propagation nor is redundant
-    /// by its first literal.
+    /// The clause that the step adds is used, and neither follows by propagation nor is RAT on its
+    /// first literal.
     #[error("step {step}: clause neither follows nor is redundant by its first literal")]
     NotRedundant { step: u64 },
     /// The clause that the step adds is used, and neither follows by propagation nor is redundant
@@ -22,18 +22,17 @@ pub enum ElaborateFault {
     /// The witness of the step has a literal and its negation.
     #[error("step {step}: witness contradicts itself")]
     ContradictoryWitness { step: u64 },
-    /// The lines of a clause with a witness need a variable above those of the formula and the
-    /// proof, and the largest one that there may be is among them.
-    #[error("no variable is left for the lines of a witness")]
+    /// The lines of a clause with a witness, or of a target tautology, need a variable above those
+    /// of the formula and the proof, which have the largest variable already.
+    #[error("no variable is left for the lines of a witness or of a tautology")]
     NoFreshVariable,
-    /// The step says that a clause is of the formula, and each that has its literals was named
-    /// already.
+    /// The step names a clause of the formula, and each one with its literals has an id already.
     #[error("step {step}: clause is not in the formula")]
     NotInFormula { step: u64 },
     /// The steps end without a conflict by propagation.
     #[error("no conflict after {steps} steps")]
     NoConflict { steps: u64 },
-    /// A call came out of order, or the elaborator's tables disagree.
+    /// A call came out of order, or the elaborator has a defect.
     #[error("internal error")]
     Internal,
 }

@@ -1,5 +1,4 @@
-//! The forward pass: the formula and the steps are taken in, up to the first conflict by
-//! propagation.
+//! The forward pass: the formula and the steps are stored, up to the first conflict by propagation.
 use crate::arena::Block;
 use crate::clauses::ClauseIndex;
 use crate::fault::ElaborateFault;
@@ -14,26 +13,27 @@ use crate::variables::Variables;
 use sat_formula::Lit;
 use std::alloc::Global;
 
-/// What was taken in.
+/// The state of the forward pass.
 #[derive(Drop)]
 pub(crate) struct Forward {
     pub(crate) alloc: Global,
     pub(crate) variables: Variables,
     pub(crate) propagator: Propagator,
     pub(crate) steps: Steps,
-    /// This many clauses are of the formula.
+    /// How many clauses the formula has.
     pub(crate) formula_len: usize,
     pub(crate) conflict: Option<Block>,
-    /// The clauses that a proof names by their literals.
+    /// The clauses that a proof names by their literals: in DRAT all live ones, in FRAT those of
+    /// the formula without an id.
     pub(crate) table: ClauseTable,
     /// The clauses that it names by ids.
     pub(crate) names: Names,
     /// The literals of the clause that is read, each once.
     pub(crate) lits: Vec<LocalLit>,
     pub(crate) set: LitSet,
-    /// How many deletions met no clause.
+    /// How many deletions found no clause.
     pub(crate) missing_deletions: u64,
-    /// How many deletions met only clauses that force a literal.
+    /// How many deletions found only clauses that are reasons.
     pub(crate) kept_reasons: u64,
 }
 
@@ -55,14 +55,20 @@ impl Forward {
         }
     }
 
+    /// Stores the next clause of the formula.
     pub(crate) fn add_clause(&mut self, lits: &[Lit]) -> Result<(), ElaborateFault> {
-        self.store(lits)?;
+        let is_tautology = self.normalize(lits)?;
+        self.propagator.clauses.push(&self.lits, is_tautology)?;
+        for lit in &self.lits {
+            self.table.stir(*lit);
+        }
         self.formula_len = self.propagator.clauses.len();
         Ok(())
     }
 
     /// Watches the clauses of the formula, and propagates its units.
     pub(crate) fn begin(&mut self) -> Result<(), ElaborateFault> {
+        self.table.enter_all(&mut self.propagator.clauses)?;
         self.steps.begin(self.formula_len)?;
         for index in 0..self.formula_len {
             self.watch_formula_clause(ClauseIndex::new(index)?)?;
@@ -78,7 +84,7 @@ impl Forward {
         Ok(())
     }
 
-    /// Gives back the memory that is of use only while steps are read.
+    /// Frees the memory that only the forward pass needs.
     pub(crate) fn end(&mut self) {
         self.variables.end();
         self.table = ClauseTable::new(self.alloc);
@@ -87,6 +93,7 @@ impl Forward {
         self.set = LitSet::new(self.alloc);
     }
 
+    /// Watches a clause of the formula that has two literals or more and is no tautology.
     fn watch_formula_clause(&mut self, clause: ClauseIndex) -> Result<(), ElaborateFault> {
         let found = self.propagator.clauses.get_mut(clause)?;
         if found.is_tautology {
@@ -100,7 +107,7 @@ impl Forward {
         Ok(())
     }
 
-    /// Makes the literal of a unit clause true. An empty clause is a conflict.
+    /// Assigns the literal of a unit clause. An empty clause is a conflict.
     fn assign_formula_unit(&mut self, clause: ClauseIndex) -> Result<(), ElaborateFault> {
         let block = self.propagator.clauses.get(clause)?.block;
         let lits = self.propagator.clauses.arena.lits(block)?;
@@ -119,13 +126,16 @@ impl Forward {
         Ok(())
     }
 
-    /// Takes in a clause that the proof adds.
+    /// Stores a clause of the proof and propagates.
     pub(crate) fn add_lemma(&mut self, lits: &[Lit]) -> Result<(), ElaborateFault> {
-        let clause = self.store(lits)?;
+        let is_tautology = self.normalize(lits)?;
+        let clauses = &mut self.propagator.clauses;
+        let clause = clauses.push(&self.lits, is_tautology)?;
+        self.table.enter_new(clauses, clause)?;
         self.add_stored(clause)
     }
 
-    /// A clause that is stored is added.
+    /// Adds the step of a stored clause and propagates.
     pub(crate) fn add_stored(&mut self, clause: ClauseIndex) -> Result<(), ElaborateFault> {
         self.steps.push(Step::Add(clause))?;
         let len = self.propagator.trail.len();
@@ -136,7 +146,7 @@ impl Forward {
         Ok(())
     }
 
-    /// Takes in a deletion.
+    /// Deletes a clause with these literals, if there is one that is no reason.
     pub(crate) fn delete_clause(&mut self, lits: &[Lit]) -> Result<(), ElaborateFault> {
         self.normalize(lits)?;
         match self
@@ -156,23 +166,14 @@ impl Forward {
         Ok(())
     }
 
-    /// A clause that forces nothing goes.
+    /// Deletes a clause that is no reason.
     pub(crate) fn remove(&mut self, clause: ClauseIndex) -> Result<(), ElaborateFault> {
         self.steps.push(Step::Delete(clause))?;
         self.propagator.detach(clause)?;
         self.propagator.clauses.free(clause)
     }
 
-    /// Stores a clause, each literal once.
-    fn store(&mut self, lits: &[Lit]) -> Result<ClauseIndex, ElaborateFault> {
-        let is_tautology = self.normalize(lits)?;
-        let clauses = &mut self.propagator.clauses;
-        let clause = clauses.push(&self.lits, is_tautology)?;
-        self.table.enter_new(clauses, clause)?;
-        Ok(clause)
-    }
-
-    /// Reads a clause, each literal once. The answer is whether it is a tautology.
+    /// Reads a clause into `lits`, each literal once. Returns whether it is a tautology.
     pub(crate) fn normalize(&mut self, lits: &[Lit]) -> Result<bool, ElaborateFault> {
         self.set.clear()?;
         self.lits.clear();

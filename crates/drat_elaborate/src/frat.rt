@@ -9,16 +9,17 @@ use frat_text::{FratAction, FratHint, FratStep, Renaming};
 use sat_formula::Lit;
 
 impl Elaborator {
-    /// Takes in a step of a FRAT proof. After a conflict it is passed over.
+    /// Adds a step of a FRAT proof. After a conflict it is ignored.
     ///
-    /// A step that says that a clause is there at the end is passed over, and so is a renaming of
-    /// an id that no clause has. A deletion is counted and passed over where no clause has the id,
-    /// or where the clause forces a literal; its literals say nothing. Hints belong to the clause
-    /// that the step before added, and are passed over elsewhere; in the check they are tried
-    /// first.
+    /// A step for a clause that is live at the end is ignored, and so is the renaming of an id that
+    /// no clause has. A deletion is counted and ignored if no clause has the id, or the clause is
+    /// the reason of a literal; its literals are not compared. Hints belong to the clause that the
+    /// step before added, and are ignored elsewhere; the check tries them first.
     ///
-    /// `NotInFormula` where a clause is said to be of the formula, and each clause of it with these
-    /// literals has an id already.
+    /// # Errors
+    ///
+    /// `NotInFormula` if the step names a clause of the formula, and each one with these literals
+    /// has an id already.
     pub fn take_frat_step(&mut self, step: FratStep<'_>) -> Result<(), ElaborateFault> {
         self.begin_proof()?;
         if self.is_refuted() {
@@ -31,7 +32,7 @@ impl Elaborator {
         }
     }
 
-    /// Keeps the hints before the first negative one, as far as clauses have their ids.
+    /// Keeps the hints before the first negative one, except those whose ids no clause has.
     fn keep_hints(&mut self, hints: &[FratHint]) -> Result<(), ElaborateFault> {
         if let Some(clause) = self.forward.steps.last_added() {
             self.backward.given.begin(clause)?;
@@ -49,6 +50,7 @@ impl Elaborator {
 }
 
 impl Forward {
+    /// Adds a step of a clause, by its kind.
     fn take_clause(
         &mut self,
         action: FratAction,
@@ -63,7 +65,7 @@ impl Forward {
         }
     }
 
-    /// A step that changes nothing.
+    /// Adds a step that changes nothing.
     fn pass_over(&mut self) -> Result<(), ElaborateFault> {
         self.steps.push(Step::Nothing)?;
         Ok(())
@@ -84,7 +86,7 @@ impl Forward {
         }
     }
 
-    /// Takes in a clause that the proof adds under an id.
+    /// Stores a clause of the proof under an id and propagates.
     pub(crate) fn add_named(&mut self, id: u64, lits: &[Lit]) -> Result<(), ElaborateFault> {
         let is_tautology = self.normalize(lits)?;
         let clause = self.propagator.clauses.push(&self.lits, is_tautology)?;
@@ -92,7 +94,7 @@ impl Forward {
         self.add_stored(clause)
     }
 
-    /// Takes in the deletion of the clause of an id.
+    /// Deletes the clause of an id, if there is one that is no reason.
     pub(crate) fn delete_named(&mut self, id: u64) -> Result<(), ElaborateFault> {
         let Some(clause) = self.names.take(id) else {
             self.missing_deletions = self.missing_deletions.saturating_add(1);
@@ -105,7 +107,7 @@ impl Forward {
         self.remove(clause)
     }
 
-    /// Clauses get other ids, all at once.
+    /// Gives clauses other ids, all at once.
     fn rename(&mut self, renamings: &[Renaming]) -> Result<(), ElaborateFault> {
         let mut moved = Vec::new(self.alloc);
         for renaming in renamings {

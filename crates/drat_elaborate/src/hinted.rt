@@ -29,20 +29,20 @@ impl GivenHints {
         }
     }
 
-    /// Begins the hints of a clause, which comes after those that have some.
+    /// Begins the hints of a clause, which comes after all that have some.
     pub(crate) fn begin(&mut self, clause: ClauseIndex) -> Result<(), ElaborateFault> {
         let start = narrow(self.hints.len())?;
         self.spans.push(Span { clause, start })?;
         Ok(())
     }
 
-    /// A hint of the clause that was begun last.
+    /// Adds a hint of the clause that was begun last.
     pub(crate) fn push(&mut self, hint: ClauseIndex) -> Result<(), ElaborateFault> {
         self.hints.push(hint)?;
         Ok(())
     }
 
-    /// The hints of a clause, where it is the last of those that have some.
+    /// Returns the hints of a clause, if it is the last one that has some; else none.
     pub(crate) fn last_of(&self, clause: ClauseIndex) -> &[ClauseIndex] {
         match self.spans.last() {
             Some(span) if span.clause == clause => {
@@ -52,7 +52,7 @@ impl GivenHints {
         }
     }
 
-    /// Drops the hints of a clause, where it is the last of those that have some.
+    /// Drops the hints of a clause, if it is the last one that has some.
     pub(crate) fn drop_last_of(&mut self, clause: ClauseIndex) {
         if let Some(span) = self.spans.last().copied() {
             if span.clause == clause {
@@ -64,9 +64,9 @@ impl GivenHints {
 }
 
 impl Check {
-    /// Assumes the negated literals of a clause, and goes once through these hints, in order. The
-    /// answer is the clause of a conflict, or the reason of a literal of the clause that is true
-    /// already. Without one the trail is not propagated.
+    /// Assumes the negated literals of a clause, and follows these hints once, in order. Returns
+    /// the clause of a conflict, or the reason of a literal of the clause that is true already.
+    /// Without one the trail is not propagated.
     pub(crate) fn refute_along(
         &mut self,
         propagator: &mut Propagator,
@@ -91,7 +91,8 @@ impl Check {
     }
 }
 
-/// What a clause comes to. One that is not there can't be used, nor a tautology.
+/// Returns the status of a clause under the assignment. A deleted clause and a tautology can't be
+/// used.
 fn standing_of(propagator: &Propagator, clause: &Clause) -> Result<Standing, ElaborateFault> {
     if !clause.is_active || clause.is_tautology {
         return Ok(Standing::Other);

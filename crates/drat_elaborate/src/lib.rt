@@ -1,7 +1,11 @@
 //! Turns DRAT, DPR, LPR and FRAT proofs into lines of LRAT proofs, by backward checking.
 //!
-//! Nobody has to trust it: its lines are for a checker of LRAT proofs, whose verdict stands
-//! whatever they are.
+//! It need not be trusted: a checker of LRAT proofs checks its lines.
+//!
+//! Sources: DRAT and backward checking by Wetzler, Heule and Hunt (DRAT-trim, 2014), propagation
+//! over used clauses first by Heule, Hunt and Wetzler (Trimming while Checking Clausal Proofs,
+//! 2013), PR by Heule, Kiesl and Biere (Short Proofs Without New Variables, 2017).
+//! `docs/reference/LITERATURE.md` has the full titles.
 #![tactic(auto)]
 
 mod arena;
@@ -33,6 +37,7 @@ mod stale;
 mod standing;
 mod steps;
 mod sweep;
+mod tautologies;
 mod trail;
 mod variables;
 mod wanted;

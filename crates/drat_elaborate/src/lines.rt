@@ -10,10 +10,10 @@ use lrat_text::Hint;
 use sat_formula::Lit;
 use std::alloc::Global;
 
-/// The ids of the clauses so far, and the lists of the line that is told.
+/// The ids of the clauses so far, and the lists of the present line.
 #[derive(Drop)]
 pub(crate) struct Lines {
-    /// By number of the clause; 0 where it has none yet.
+    /// By number of the clause; 0 if it has none yet.
     pub(crate) ids: Vec<u32>,
     pub(crate) last_id: u64,
     pub(crate) clause: Vec<Lit>,
@@ -49,7 +49,7 @@ impl Lines {
         }
     }
 
-    /// The clauses of the formula get their ids; those that are not used are the first to go, or
+    /// Gives the clauses of the formula their ids; those that are not used are deleted first, or
     /// get none.
     pub(crate) fn begin(&mut self, forward: &Forward) -> Result<(), ElaborateFault> {
         if self.is_begun {
@@ -71,15 +71,15 @@ impl Lines {
         Ok(())
     }
 
-    /// Whether the next line is a deletion, which is so at most once.
+    /// Returns whether the next line is a deletion, which is so at most once.
     pub(crate) fn take_deletion(&mut self) -> bool {
         let is_next = self.deletion_is_next;
         self.deletion_is_next = false;
         is_next
     }
 
-    /// Reads the last record into the lists, and takes it off. The answer is whether there was one.
-    /// Where its clause is redundant by a witness, its lines wait instead.
+    /// Reads the last record into the lists, and takes it off. Returns whether there was one. If
+    /// its clause is redundant by a witness, its lines are queued instead.
     pub(crate) fn read(
         &mut self,
         forward: &Forward,
@@ -107,7 +107,7 @@ impl Lines {
         Ok(true)
     }
 
-    /// The clause of the next line.
+    /// Reads the clause of the next line.
     pub(crate) fn read_clause(
         &mut self,
         forward: &Forward,
@@ -120,6 +120,7 @@ impl Lines {
         Ok(())
     }
 
+    /// Reads the hints of the record, by their ids.
     fn read_hints(&mut self) -> Result<(), ElaborateFault> {
         self.hints.clear();
         for hint in &self.record.hints {
@@ -129,6 +130,7 @@ impl Lines {
         Ok(())
     }
 
+    /// Reads the ids of the clauses that no later line uses.
     pub(crate) fn read_dying(&mut self) -> Result<(), ElaborateFault> {
         self.dying.clear();
         for clause in &self.record.dying {
@@ -138,7 +140,7 @@ impl Lines {
         Ok(())
     }
 
-    /// Gives the next id to a clause.
+    /// Gives a clause the next id.
     pub(crate) fn name(&mut self, clause: ClauseIndex) -> Result<(), ElaborateFault> {
         self.last_id = self.last_id.saturating_add(1);
         match self.ids.get_mut(clause.get()) {
@@ -149,7 +151,11 @@ impl Lines {
     }
 }
 
-/// The id of a clause that has one.
+/// Returns the id of a clause.
+///
+/// # Errors
+///
+/// `Internal` if it has none.
 pub(crate) fn id_in(ids: &[u32], clause: ClauseIndex) -> Result<u64, ElaborateFault> {
     match ids.get(clause.get()).copied() {
         Some(id) if id > 0 => Ok(id as u64),

@@ -6,7 +6,7 @@ use std::alloc::Global;
 /// A set of literals.
 #[derive(Drop)]
 pub(crate) struct LitSet {
-    /// By code, when the literal came in last.
+    /// By code, the period in which the literal was inserted last.
     stamps: Vec<u32>,
     now: u32,
 }
@@ -19,17 +19,23 @@ impl LitSet {
         }
     }
 
+    /// Empties the set.
+    ///
+    /// # Errors
+    ///
+    /// `TooLong` if 32 bits can't count the calls.
     pub(crate) fn clear(&mut self) -> Result<(), ElaborateFault> {
         self.now = self.now.checked_add(1).ok_or(ElaborateFault::TooLong)?;
         Ok(())
     }
 
+    /// Returns whether the literal is in the set.
     #[inline(always)]
     pub(crate) fn contains(&self, lit: LocalLit) -> bool {
         self.stamps.get(lit.place()).copied().unwrap_or(0) == self.now
     }
 
-    /// Puts a literal in. The answer is whether it was not in the set before.
+    /// Inserts a literal. Returns whether it was not in the set before.
     #[inline(always)]
     pub(crate) fn insert(&mut self, lit: LocalLit) -> Result<bool, ElaborateFault> {
         let place = lit.place();

@@ -4,30 +4,32 @@ use crate::fault::ElaborateFault;
 use crate::lit_set::LitSet;
 use crate::local::LocalLit;
 use crate::propagator::Propagator;
-use std::alloc::{AllocError, Global};
+use std::alloc::Global;
 
-/// What a search for a clause came to.
+/// The result of a search for a clause.
 #[derive(Clone, Copy)]
 pub(crate) enum Lookup {
-    /// This clause is there, and forces nothing where such are kept. It is no longer found.
+    /// This clause, which is no longer in the table; where reasons are kept, it is none.
     Found(ClauseIndex),
-    /// Each such clause forces a literal.
+    /// Each such clause is the reason of a literal.
     Reason,
     Missing,
 }
 
-/// Whether clauses that force a literal are taken too.
+/// Whether reasons are taken too.
 #[derive(Clone, Copy, PartialEq, Eq)]
 pub(crate) enum Reasons {
     Take,
     Keep,
 }
 
-/// The clauses that are there, in buckets by a hash of their literals.
+/// Live clauses, in buckets by a hash of their literals.
 #[derive(Drop)]
 pub(crate) struct ClauseTable {
-    /// The first clause of each bucket; the next one is told by the clause.
+    /// The first clause of each bucket; each has a link to the next one.
     buckets: Vec<ClauseLink>,
+    /// Selects the hash.
+    seed: u64,
 }
 
 impl ClauseTable {
@@ -36,37 +38,43 @@ impl ClauseTable {
     pub(crate) fn new(alloc: Global) -> ClauseTable {
         ClauseTable {
             buckets: Vec::new(alloc),
+            seed: 0,
         }
     }
 
-    /// Enters a clause that was stored last.
+    /// Mixes a literal of the formula into the seed, before the first clause is entered. So no
+    /// list of clauses has equal hashes for every formula.
+    #[inline(always)]
+    pub(crate) fn stir(&mut self, lit: LocalLit) {
+        self.seed = mixed((lit.code() as u64).wrapping_add(self.seed.rotate_left(23)));
+    }
+
+    /// Enters all live clauses, in place of those that the table had.
+    pub(crate) fn enter_all(&mut self, clauses: &mut Clauses) -> Result<(), ElaborateFault> {
+        let count = clauses.len();
+        self.refill(clauses, count)
+    }
+
+    /// Enters the clause that was stored last.
     pub(crate) fn enter_new(
         &mut self,
         clauses: &mut Clauses,
         clause: ClauseIndex,
     ) -> Result<(), ElaborateFault> {
         if clauses.len() > self.buckets.len() {
-            self.grow()?;
-            self.enter_below(clauses, clause)?;
+            self.refill(clauses, clause.get())?;
         }
         self.enter(clauses, clause)
     }
 
-    /// Twice as many buckets, all empty.
-    fn grow(&mut self) -> Result<(), AllocError> {
-        let twice = self.buckets.len().saturating_mul(2);
-        let size = twice.max(ClauseTable::FIRST_SIZE);
+    /// Makes as many buckets as there are clauses, or up to twice as many, and enters the live ones
+    /// of the first `end` clauses.
+    fn refill(&mut self, clauses: &mut Clauses, end: usize) -> Result<(), ElaborateFault> {
+        let count = clauses.len().max(ClauseTable::FIRST_SIZE);
+        let size = count.checked_next_power_of_two().unwrap_or(usize::MAX);
         self.buckets.clear();
-        self.buckets.resize(size, ClauseLink::none())
-    }
-
-    /// Enters the clauses before one that are there.
-    fn enter_below(
-        &mut self,
-        clauses: &mut Clauses,
-        end: ClauseIndex,
-    ) -> Result<(), ElaborateFault> {
-        for index in 0..end.get() {
+        self.buckets.resize(size, ClauseLink::none())?;
+        for index in 0..end {
             let clause = ClauseIndex::new(index)?;
             if clauses.get(clause)?.is_active {
                 self.enter(clauses, clause)?;
@@ -75,21 +83,21 @@ impl ClauseTable {
         Ok(())
     }
 
-    /// Enters a clause that is there and is not found yet.
+    /// Enters a live clause that is not in the table.
     pub(crate) fn enter(
         &mut self,
         clauses: &mut Clauses,
         clause: ClauseIndex,
     ) -> Result<(), ElaborateFault> {
-        let hash = hash(clauses.lits(clause)?);
+        let hash = hash(clauses.lits(clause)?, self.seed);
         let bucket = bucket_of(&mut self.buckets, hash)?;
         clauses.get_mut(clause)?.next = *bucket;
         *bucket = ClauseLink::to(clause);
         Ok(())
     }
 
-    /// Takes out a clause with these literals, if there is one. Each literal stands once, and `set`
-    /// has the same.
+    /// Takes out a clause with these literals, if there is one. Each literal is in `lits` once, and
+    /// `set` has the same ones.
     pub(crate) fn take(
         &mut self,
         propagator: &mut Propagator,
@@ -100,7 +108,7 @@ impl ClauseTable {
         if self.buckets.is_empty() {
             return Ok(Lookup::Missing);
         }
-        let bucket = bucket_of(&mut self.buckets, hash(lits))?;
+        let bucket = bucket_of(&mut self.buckets, hash(lits, self.seed))?;
         let mut before = None;
         let mut at = *bucket;
         let mut answer = Lookup::Missing;
@@ -125,7 +133,7 @@ impl ClauseTable {
     }
 }
 
-/// The bucket of a hash.
+/// Returns the bucket of a hash.
 fn bucket_of(buckets: &mut Vec<ClauseLink>, hash: u32) -> Result<&mut ClauseLink, ElaborateFault> {
     let mask = buckets.len().wrapping_sub(1);
     buckets
@@ -133,24 +141,24 @@ fn bucket_of(buckets: &mut Vec<ClauseLink>, hash: u32) -> Result<&mut ClauseLink
         .ok_or(ElaborateFault::Internal)
 }
 
-/// Whether a clause has just these literals.
+/// Returns whether a clause has just these literals.
 fn is_same(clause: &[LocalLit], lits: &[LocalLit], set: &LitSet) -> bool {
     clause.len() == lits.len() && clause.iter().all(|lit| set.contains(*lit))
 }
 
-/// A hash in which the order of the literals doesn't matter: the upper half of the sum of their
-/// own, which is no sum of what few literals have in common.
-fn hash(lits: &[LocalLit]) -> u32 {
+/// Returns a hash that does not depend on the order of the literals: the upper half of the sum of
+/// their mixed codes.
+fn hash(lits: &[LocalLit], seed: u64) -> u32 {
     let mut sum = 0u64;
     for lit in lits {
-        sum = sum.wrapping_add(mixed(lit.code() as u64));
+        sum = sum.wrapping_add(mixed((lit.code() as u64).wrapping_add(seed)));
     }
     (sum >> 32) as u32
 }
 
-/// The code of a literal, each bit of which changes many of the answer.
+/// Returns a mixed number: each bit of the argument changes many of its bits.
 #[inline(always)]
-fn mixed(code: u64) -> u64 {
-    let spread = code.wrapping_add(1).wrapping_mul(0x9E37_79B9_7F4A_7C15);
+fn mixed(number: u64) -> u64 {
+    let spread = number.wrapping_add(1).wrapping_mul(0x9E37_79B9_7F4A_7C15);
     (spread ^ (spread >> 29)).wrapping_mul(0xBF58_476D_1CE4_E5B9)
 }

@@ -8,15 +8,18 @@ use lrat_text::{Hint, LratLine};
 use sat_formula::Lit;
 
 impl Elaborator {
-    /// Takes in a line of an LPR proof: where the first literal of its clause comes again, the
-    /// witness begins. Clauses of the formula have the ids 1, 2 and so on. After a conflict a line
-    /// is passed over.
+    /// Adds a line of an LPR proof: if the first literal of its clause is repeated, the witness
+    /// begins there. Clauses of the formula have the ids 1, 2 and so on. After a conflict the line
+    /// is ignored.
     ///
-    /// Each clause that a line adds or deletes is a step. A deletion is counted and passed over
-    /// where no clause has the id, or where the clause forces a literal. The hints before the first
-    /// negative one are tried first, as far as clauses have their ids; the others say nothing.
+    /// Each clause that a line adds or deletes is a step. A deletion is counted and ignored if no
+    /// clause has the id, or the clause is the reason of a literal. The check tries the hints
+    /// before the first negative one first, except those whose ids no clause has; the others are
+    /// ignored.
     ///
-    /// `ContradictoryWitness` where a witness has a literal and its negation.
+    /// # Errors
+    ///
+    /// `ContradictoryWitness` if a witness has a literal and its negation.
     pub fn take_lpr_line(&mut self, line: LratLine<'_>) -> Result<(), ElaborateFault> {
         self.begin_proof()?;
         if self.is_refuted() {
@@ -31,6 +34,7 @@ impl Elaborator {
         }
     }
 
+    /// Adds a line with a clause, its witness and its hints.
     fn add_line(&mut self, id: u64, lits: &[Lit], hints: &[Hint]) -> Result<(), ElaborateFault> {
         let (clause, witness) = parts(lits);
         if !witness.is_empty() {
@@ -40,7 +44,7 @@ impl Elaborator {
         self.keep_line_hints(hints)
     }
 
-    /// Keeps the hints before the first negative one, as far as clauses have their ids.
+    /// Keeps the hints before the first negative one, except those whose ids no clause has.
     fn keep_line_hints(&mut self, hints: &[Hint]) -> Result<(), ElaborateFault> {
         let Some(clause) = self.forward.steps.last_added() else {
             return Ok(());
@@ -59,7 +63,7 @@ impl Elaborator {
 }
 
 impl Forward {
-    /// The clauses of the formula get the ids 1, 2 and so on.
+    /// Gives the clauses of the formula the ids 1, 2 and so on.
     fn name_formula(&mut self) -> Result<(), ElaborateFault> {
         for index in 0..self.formula_len {
             let id = (index as u64).saturating_add(1);
@@ -68,7 +72,7 @@ impl Forward {
         Ok(())
     }
 
-    /// The clauses of these ids go.
+    /// Deletes the clauses of these ids.
     fn delete_line(&mut self, ids: &[u64]) -> Result<(), ElaborateFault> {
         for id in ids {
             self.delete_named(*id)?;

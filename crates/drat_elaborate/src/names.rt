@@ -4,7 +4,7 @@ use crate::fault::ElaborateFault;
 use std::alloc::Global;
 use std::collections::HashMap;
 
-/// This many places there are in `near` beside `PLACES_EACH` for each clause that got an id.
+/// `near` has this many slots in addition to `PLACES_EACH` for each clause that got an id.
 const SPARE_PLACES: u64 = 1 << 12;
 
 const PLACES_EACH: u64 = 4;
@@ -14,7 +14,7 @@ const PLACES_EACH: u64 = 4;
 pub(crate) struct Names {
     /// By id.
     near: Vec<ClauseLink>,
-    /// Those whose ids were far above the number of ids that were given.
+    /// Those whose ids were too large for `near`.
     far: HashMap<u64, ClauseIndex>,
     /// How many ids were given so far.
     given: u64,
@@ -29,7 +29,7 @@ impl Names {
         }
     }
 
-    /// The clause of an id.
+    /// Returns the clause of an id, if there is one.
     pub(crate) fn get(&self, id: u64) -> Option<ClauseIndex> {
         let near = match self.near.get(id as usize) {
             Some(link) => link.get(),
@@ -41,7 +41,7 @@ impl Names {
         }
     }
 
-    /// Gives an id to a clause. Where another one had it, that has none any more.
+    /// Gives a clause an id. If another one had it, that one has none any more.
     pub(crate) fn put(&mut self, id: u64, clause: ClauseIndex) -> Result<(), ElaborateFault> {
         let room = self
             .given
@@ -61,7 +61,7 @@ impl Names {
         Ok(())
     }
 
-    /// Takes an id back, and answers the clause that had it.
+    /// Takes an id back. Returns the clause that had it, if there was one.
     pub(crate) fn take(&mut self, id: u64) -> Option<ClauseIndex> {
         if let Some(link) = self.near.get_mut(id as usize) {
             if let Some(clause) = link.get() {

@@ -1,107 +1,89 @@
-//! In which clauses each literal stands.
+//! The used clauses that each literal occurs in.
 use crate::clauses::{ClauseIndex, Clauses};
 use crate::fault::ElaborateFault;
 use crate::local::LocalLit;
 use std::alloc::Global;
 
-/// For each literal the clauses that it stands in, among those before a certain one.
+/// For each literal the used clauses that it occurs in: all live ones, and perhaps some that are
+/// deleted. In the backward pass a used clause that is removed is never restored.
 #[derive(Drop)]
 pub(crate) struct Occurrences {
-    /// By code, where the clauses of the literal begin; and last, where those of the last one end.
-    starts: Vec<usize>,
-    clauses: Vec<ClauseIndex>,
+    alloc: Global,
+    /// By code.
+    lists: Vec<Vec<ClauseIndex>>,
+    /// The literals of the clause that is being entered.
+    lits: Vec<LocalLit>,
 }
 
 impl Occurrences {
-    /// The occurrences in the clauses before `end` that are no tautologies.
+    /// Returns the occurrences in the clauses before `end`.
     pub(crate) fn collect(
         alloc: Global,
         clauses: &Clauses,
         end: ClauseIndex,
-        lit_count: usize,
     ) -> Result<Occurrences, ElaborateFault> {
-        let mut starts = Vec::new(alloc);
-        starts.resize(lit_count.saturating_add(1), 0)?;
-        let mut lits = Vec::new(alloc);
+        let mut found = Occurrences {
+            alloc,
+            lists: Vec::new(alloc),
+            lits: Vec::new(alloc),
+        };
         for index in 0..end.get() {
-            read(clauses, ClauseIndex::new(index)?, &mut lits)?;
-            count(&lits, &mut starts);
+            found.enter(clauses, ClauseIndex::new(index)?)?;
         }
-        let total = add_up(&mut starts);
-        let mut found = Vec::new(alloc);
-        found.resize(total, end)?;
-        for index in (0..end.get()).rev() {
-            let clause = ClauseIndex::new(index)?;
-            read(clauses, clause, &mut lits)?;
-            place(clause, &lits, &mut starts, &mut found);
+        Ok(found)
+    }
+
+    /// Enters clauses that were used for the first time.
+    pub(crate) fn enter_all(
+        &mut self,
+        clauses: &Clauses,
+        fresh: &[ClauseIndex],
+    ) -> Result<(), ElaborateFault> {
+        for clause in fresh {
+            self.enter(clauses, *clause)?;
         }
-        Ok(Occurrences {
-            starts,
-            clauses: found,
-        })
+        Ok(())
     }
 
-    /// The clauses that a literal stands in.
-    pub(crate) fn of(&self, lit: LocalLit) -> &[ClauseIndex] {
-        let start = self.starts.get(lit.place()).copied().unwrap_or(0);
-        let end = self
-            .starts
-            .get(lit.place().wrapping_add(1))
-            .copied()
-            .unwrap_or(0);
-        if start <= end && end <= self.clauses.len() {
-            &self.clauses[start..end]
-        } else {
-            &[]
+    /// Enters a clause, if it is live and used.
+    fn enter(&mut self, clauses: &Clauses, clause: ClauseIndex) -> Result<(), ElaborateFault> {
+        if !clauses.get(clause)?.is_candidate() {
+            return Ok(());
         }
-    }
-}
-
-/// Reads the literals of a clause; none where it is a tautology.
-fn read(
-    clauses: &Clauses,
-    clause: ClauseIndex,
-    lits: &mut Vec<LocalLit>,
-) -> Result<(), ElaborateFault> {
-    if clauses.get(clause)?.is_tautology {
-        lits.clear();
-        return Ok(());
-    }
-    clauses.read(clause, lits)
-}
-
-/// Counts the literals of a clause.
-fn count(lits: &[LocalLit], counts: &mut Vec<usize>) {
-    for lit in lits {
-        if let Some(count) = counts.get_mut(lit.place()) {
-            *count = count.saturating_add(1);
-        }
-    }
-}
-
-/// Adds to each count those before it. The answer is the sum.
-fn add_up(counts: &mut Vec<usize>) -> usize {
-    let mut sum = 0usize;
-    for count in counts.iter_mut() {
-        sum = sum.saturating_add(*count);
-        *count = sum;
-    }
-    sum
-}
-
-/// Puts a clause before the others of each of its literals.
-fn place(
-    clause: ClauseIndex,
-    lits: &[LocalLit],
-    starts: &mut Vec<usize>,
-    found: &mut Vec<ClauseIndex>,
-) {
-    for lit in lits {
-        if let Some(start) = starts.get_mut(lit.place()) {
-            *start = start.saturating_sub(1);
-            if let Some(place) = found.get_mut(*start) {
-                *place = clause;
+        clauses.read(clause, &mut self.lits)?;
+        for lit in &self.lits {
+            for _ in self.lists.len()..lit.place().saturating_add(1) {
+                self.lists.push(Vec::new(self.alloc))?;
+            }
+            if let Some(list) = self.lists.get_mut(lit.place()) {
+                list.push(clause)?;
             }
         }
+        Ok(())
+    }
+
+    /// Returns the live used clauses in which a literal occurs.
+    pub(crate) fn of(
+        &mut self,
+        clauses: &Clauses,
+        lit: LocalLit,
+    ) -> Result<&[ClauseIndex], ElaborateFault> {
+        let Some(list) = self.lists.get_mut(lit.place()) else {
+            return Ok(&[]);
+        };
+        let mut kept = 0usize;
+        for place in 0..list.len() {
+            let Some(clause) = list.get(place).copied() else {
+                break;
+            };
+            if clauses.get(clause)?.is_candidate() {
+                if let Some(slot) = list.get_mut(kept) {
+                    *slot = clause;
+                }
+                kept = kept.saturating_add(1);
+            }
+        }
+        list.truncate(kept);
+        Ok(list.as_slice())
     }
 }

@@ -1,8 +1,8 @@
-//! Sets of places on the trail.
+//! Sets of positions on the trail.
 use std::alloc::{AllocError, Global};
 
-/// A set of places: 64 in a word, and of 64 words the marks which of them may hold some. So the
-/// places of a long trail are found without a look at each word.
+/// A set of positions: a bit each, 64 in a word, and for each 64 words the marks of those that may
+/// be nonzero. So the positions on a long trail are found without visiting each word.
 #[derive(Drop)]
 pub(crate) struct PlaceSet {
     words: Vec<u64>,
@@ -17,7 +17,7 @@ impl PlaceSet {
         }
     }
 
-    /// Makes room for the places below `len`. Others are not kept.
+    /// Allocates slots for the positions below `len`. Others are not stored.
     pub(crate) fn make_room(&mut self, len: usize) -> Result<(), AllocError> {
         let words = len.div_ceil(64);
         if self.words.len() < words {
@@ -27,6 +27,7 @@ impl PlaceSet {
         Ok(())
     }
 
+    /// Inserts a position below the length of `make_room`; another one is ignored.
     #[inline(always)]
     pub(crate) fn insert(&mut self, place: usize) {
         let Some(word) = self.words.get_mut(place / 64) else {
@@ -39,19 +40,19 @@ impl PlaceSet {
         }
     }
 
-    /// A word may hold places.
+    /// Marks a word that may be nonzero.
     fn mark(&mut self, word: usize) {
         if let Some(marks) = self.marks.get_mut(word / 64) {
             *marks |= bit(word);
         }
     }
 
-    /// The number of words.
+    /// Returns the number of words.
     pub(crate) fn word_count(&self) -> usize {
         self.words.len()
     }
 
-    /// The last word below `end` that may hold places, where there is one.
+    /// Returns the last word below `end` that may be nonzero, if there is one.
     pub(crate) fn word_before(&self, end: usize) -> Option<usize> {
         let last = end.checked_sub(1)?;
         let below = u64::MAX.wrapping_shr(63u32.wrapping_sub((last % 64) as u32));
@@ -69,13 +70,13 @@ impl PlaceSet {
         None
     }
 
-    /// The places of a word, as bits.
+    /// Returns the positions of a word, as bits.
     #[inline(always)]
     pub(crate) fn word(&self, word: usize) -> u64 {
         self.words.get(word).copied().unwrap_or(0)
     }
 
-    /// Takes places out of a word.
+    /// Removes positions of a word.
     pub(crate) fn remove(&mut self, word: usize, places: u64) {
         let Some(found) = self.words.get_mut(word) else {
             return;
@@ -89,13 +90,13 @@ impl PlaceSet {
     }
 }
 
-/// The bit of a place within its word.
+/// Returns the bit of a position within its word.
 #[inline(always)]
 fn bit(place: usize) -> u64 {
     1u64.wrapping_shl((place % 64) as u32)
 }
 
-/// The number of the highest one of 64 that are marked, of which one is.
+/// Returns the number of the highest marked word of a group of 64, of which one is marked.
 fn highest(group: usize, marks: u64) -> usize {
     let within = 63u32.saturating_sub(marks.leading_zeros());
     group.wrapping_mul(64).wrapping_add(within as usize)

@@ -14,13 +14,13 @@ use std::alloc::{AllocError, Global};
 /// The highest bit of 64.
 const HIGHEST: u64 = 1 << 63;
 
-/// The clauses with their watches, and the literals that are true.
+/// The clauses, their watches and the trail.
 #[derive(Drop)]
 pub(crate) struct Propagator {
     alloc: Global,
     pub(crate) clauses: Clauses,
     pub(crate) trail: Trail,
-    /// The watches of the clauses that were used lately, which are gone through first.
+    /// The watches of the clauses that were used lately, which are visited first.
     pub(crate) lately: Watches,
     /// Those of the clauses that were used before.
     pub(crate) used: Watches,
@@ -32,7 +32,7 @@ pub(crate) struct Propagator {
     pub(crate) stale: StaleLists,
 }
 
-/// How far the trail has been propagated in clauses that are gone through up to a unit.
+/// How far the trail has been propagated in clauses that are visited up to the next unit.
 #[derive(Drop)]
 struct Head {
     /// The place on the trail.
@@ -42,6 +42,7 @@ struct Head {
 }
 
 impl Head {
+    /// Returns a head at a position of the trail.
     fn at(place: usize) -> Head {
         Head {
             place,
@@ -49,7 +50,7 @@ impl Head {
         }
     }
 
-    /// What is left before a place was gone through.
+    /// Moves to a position of the trail, at the start of its list.
     #[inline(always)]
     fn go_to(&mut self, place: usize) {
         if place != self.place {
@@ -71,7 +72,7 @@ struct Heads {
     recent: usize,
 }
 
-/// What a step of propagation came to.
+/// The result of a step of propagation.
 #[derive(Clone, Copy)]
 enum Progress {
     Going,
@@ -94,8 +95,8 @@ impl Propagator {
         }
     }
 
-    /// Gives back the memory of all but the clauses as they were written, when no more is
-    /// propagated.
+    /// Frees the memory of all but the clauses as they were written, once nothing is propagated any
+    /// more.
     pub(crate) fn end(&mut self) {
         self.clauses.end();
         self.trail = Trail::new(self.alloc);
@@ -107,7 +108,7 @@ impl Propagator {
         self.stale = StaleLists::new(self.alloc);
     }
 
-    /// Makes room for this many variables.
+    /// Allocates slots for this many variables.
     pub(crate) fn make_room(&mut self, count: usize) -> Result<(), AllocError> {
         if self.trail.lit_count() / 2 >= count {
             return Ok(());
@@ -118,7 +119,7 @@ impl Propagator {
         self.unused.make_room(count)
     }
 
-    /// Propagates the trail from a place on. The answer is the clause of a conflict.
+    /// Propagates the trail from a position on. Returns the clause of a conflict, if there is one.
     pub(crate) fn propagate(&mut self, from: usize) -> Result<Option<Block>, ElaborateFault> {
         if !self.stale.is_empty() {
             self.refresh()?;
@@ -140,6 +141,7 @@ impl Propagator {
         Err(ElaborateFault::Internal)
     }
 
+    /// Propagates up to the first clause that is unit or false, used clauses first.
     #[inline(always)]
     fn advance(&mut self, heads: &mut Heads) -> Result<Progress, ElaborateFault> {
         if let Some(block) = self.advance_lately(heads)? {
@@ -160,8 +162,8 @@ impl Propagator {
         advance_to_unit(arena, trail, &mut self.unused, &mut heads.unused)
     }
 
-    /// Propagates the trail to its end in the clauses that were used lately. The answer is the
-    /// clause of a conflict.
+    /// Propagates the trail to its end in the clauses that were used lately. Returns the clause of
+    /// a conflict, if there is one.
     #[inline(always)]
     fn advance_lately(&mut self, heads: &mut Heads) -> Result<Option<Block>, ElaborateFault> {
         let from = self.lately.skip_unwatched(self.trail.lits(), heads.lately);
@@ -175,7 +177,7 @@ impl Propagator {
         Ok(None)
     }
 
-    /// Looks at the recent lemmas, up to the first that forces a literal or is false.
+    /// Visits the recent lemmas, up to the first that is unit or false.
     fn advance_recent(&mut self) -> Result<Option<Progress>, ElaborateFault> {
         let mut lemmas = self.recent.lemmas();
         // Each bit is looked at once.
@@ -193,7 +195,7 @@ impl Propagator {
         Ok(None)
     }
 
-    /// What a recent lemma comes to, if it forces a literal or is false.
+    /// Returns what a recent lemma leads to, if it is unit or false; a unit is assigned.
     #[inline(always)]
     fn look_at(&mut self, clause: ClauseIndex) -> Result<Option<Progress>, ElaborateFault> {
         self.recent.spend();
@@ -213,7 +215,7 @@ impl Propagator {
     }
 }
 
-/// Goes on along the trail, up to the first clause that is unit.
+/// Propagates along the trail, up to the first clause that is unit or false.
 #[inline(always)]
 fn advance_to_unit(
     arena: &mut Arena,
@@ -244,7 +246,7 @@ fn advance_to_unit(
     Ok(Progress::Done)
 }
 
-/// Goes on along the trail to its end. The answer is the clause of a conflict.
+/// Propagates along the trail to its end. Returns the clause of a conflict, if there is one.
 #[inline(never)]
 fn sweep_on(
     arena: &mut Arena,

@@ -1,4 +1,4 @@
-//! Lines that wait to be told, in order.
+//! Queued lines, in order.
 use crate::fault::ElaborateFault;
 use lrat_text::{Hint, LratLine};
 use sat_formula::Lit;
@@ -18,11 +18,11 @@ enum WaitingLine {
     Delete { ids: Span },
 }
 
-/// The lines that wait, and the one that was begun.
+/// The queued lines, and the one that was begun.
 #[derive(Drop)]
 pub(crate) struct LineQueue {
     lines: Vec<WaitingLine>,
-    /// This many were told.
+    /// How many were returned.
     told: usize,
     lits: Vec<Lit>,
     hints: Vec<Hint>,
@@ -47,7 +47,7 @@ impl LineQueue {
         }
     }
 
-    /// No line waits any more.
+    /// Empties the queue.
     pub(crate) fn clear(&mut self) {
         self.lines.clear();
         self.told = 0;
@@ -59,19 +59,19 @@ impl LineQueue {
         self.ids_start = 0;
     }
 
-    /// A literal of the clause that is added next.
+    /// Adds a literal to the clause of the next addition.
     pub(crate) fn push_lit(&mut self, lit: Lit) -> Result<(), ElaborateFault> {
         self.lits.push(lit)?;
         Ok(())
     }
 
-    /// A hint of the clause that is added next.
+    /// Adds a hint of the next addition.
     pub(crate) fn push_hint(&mut self, hint: Hint) -> Result<(), ElaborateFault> {
         self.hints.push(hint)?;
         Ok(())
     }
 
-    /// The clause that was begun is added under an id.
+    /// Queues the addition that was begun, under an id.
     pub(crate) fn end_addition(&mut self, id: u64) -> Result<(), ElaborateFault> {
         let clause = Span {
             start: self.lits_start,
@@ -87,13 +87,13 @@ impl LineQueue {
         Ok(())
     }
 
-    /// A clause that is deleted next.
+    /// Adds an id to the next deletion.
     pub(crate) fn push_id(&mut self, id: u64) -> Result<(), ElaborateFault> {
         self.ids.push(id)?;
         Ok(())
     }
 
-    /// The clauses of these ids are deleted, if there are some.
+    /// Queues the deletion that was begun, if it has an id.
     pub(crate) fn end_deletion(&mut self) -> Result<(), ElaborateFault> {
         let ids = Span {
             start: self.ids_start,
@@ -106,7 +106,7 @@ impl LineQueue {
         Ok(())
     }
 
-    /// Goes on to the next line. The answer is whether there is one.
+    /// Moves to the next line. Returns whether there is one.
     pub(crate) fn advance(&mut self) -> bool {
         if self.told >= self.lines.len() {
             return false;
@@ -115,7 +115,11 @@ impl LineQueue {
         true
     }
 
-    /// The line that was gone on to.
+    /// Returns the present line.
+    ///
+    /// # Errors
+    ///
+    /// `Internal` before the first `advance`.
     pub(crate) fn line(&self) -> Result<LratLine<'_>, ElaborateFault> {
         let told = self.told.checked_sub(1).ok_or(ElaborateFault::Internal)?;
         match self.lines.get(told).copied() {

@@ -1,8 +1,8 @@
 //! The lemmas right before the one that is checked.
 //!
-//! An unused clause that a check needs is mostly one of them. So they are looked at one by one
-//! before the watches of all unused clauses are gone through. In a proof of which little is needed
-//! that brings lemmas into use that others would have spared: there they are left alone.
+//! An unused clause that a check needs is mostly one of them. So they are visited one by one before
+//! the watches of all unused clauses are. In a proof of which little is needed that brings lemmas
+//! into use that others would have spared: there they are not visited.
 
 use crate::clauses::ClauseIndex;
 use std::alloc::{AllocError, Global};
@@ -10,10 +10,10 @@ use std::alloc::{AllocError, Global};
 /// At most this many lemmas are looked at, and no more than 64.
 const WINDOW: usize = 32;
 
-/// A lemma that is found pays for this many that are looked at.
+/// A lemma that is unit or false pays for this many that are visited.
 const PAY: u32 = 24;
 
-/// More credit is not kept, so that a look ends soon after it stopped being worth it.
+/// The greatest credit, so that visits end soon after they stopped being worth it.
 const MOST_CREDIT: u32 = 4096;
 
 /// How many lemmas a period has.
@@ -58,7 +58,7 @@ impl Recent {
         }
     }
 
-    /// The clause is there and watched, and unused.
+    /// Notes that the clause is live, watched and unused.
     pub(crate) fn insert(&mut self, clause: ClauseIndex) -> Result<(), AllocError> {
         let word = clause.get() / 64;
         if self.unused.len() <= word {
@@ -70,7 +70,7 @@ impl Recent {
         Ok(())
     }
 
-    /// The clause is used, or is not there any more.
+    /// Notes that the clause is used or deleted.
     #[inline(always)]
     pub(crate) fn remove(&mut self, clause: ClauseIndex) {
         if let Some(found) = self.unused.get_mut(clause.get() / 64) {
@@ -78,7 +78,8 @@ impl Recent {
         }
     }
 
-    /// The last lemma that there is was gone over. It is checked if it is used.
+    /// Notes that the last lemma was undone, and whether it is used, which means that it is
+    /// checked.
     pub(crate) fn pass(&mut self, is_used: bool) {
         if self.passed == PERIOD {
             self.passed = 0;
@@ -92,8 +93,8 @@ impl Recent {
         }
     }
 
-    /// The lemma of this number is checked next; those before `formula_len` are no lemmas. Each
-    /// check gives a little credit, so that looking is tried again.
+    /// Begins the check of the lemma of this number; clauses before `formula_len` are no lemmas.
+    /// Each check gives a little credit, so that visits are tried again.
     pub(crate) fn begin(&mut self, lemma: usize, formula_len: usize) {
         let count = lemma.saturating_sub(formula_len).min(WINDOW);
         self.end = lemma;
@@ -101,7 +102,7 @@ impl Recent {
         self.earn(1);
     }
 
-    /// The lemmas to be looked at, each as a bit: the one right before the checked one is the
+    /// Returns the lemmas to be visited, each as a bit: the one right before the checked one is the
     /// highest.
     #[inline(always)]
     pub(crate) fn lemmas(&self) -> u64 {
@@ -122,29 +123,30 @@ impl Recent {
         joined & self.within
     }
 
-    /// The number of the lemma that is this many places before the one right before the checked
-    /// one.
+    /// Returns the number of the lemma that is this many positions before the one right before the
+    /// checked one.
     #[inline(always)]
     pub(crate) fn number(&self, places: u32) -> usize {
         self.end.saturating_sub(1).saturating_sub(places as usize)
     }
 
-    /// A lemma was looked at.
+    /// Notes that a lemma was visited.
     pub(crate) fn spend(&mut self) {
         self.credit = self.credit.saturating_sub(1);
     }
 
-    /// The lemma forces a literal, or is false.
+    /// Notes that the lemma is unit or false.
     pub(crate) fn reward(&mut self) {
         self.earn(PAY);
     }
 
+    /// Adds credit, up to the greatest.
     fn earn(&mut self, credit: u32) {
         self.credit = self.credit.saturating_add(credit).min(MOST_CREDIT);
     }
 }
 
-/// The bit of a clause within its word.
+/// Returns the bit of a clause within its word.
 #[inline(always)]
 fn bit(clause: ClauseIndex) -> u64 {
     1u64.wrapping_shl((clause.get() % 64) as u32)

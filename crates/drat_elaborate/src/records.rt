@@ -1,33 +1,36 @@
-//! What was found of each checked clause, kept until the lines are asked for.
+//! The records of the checked clauses, kept until their lines are read.
 use crate::byte_stack::ByteStack;
 use crate::clauses::{ClauseIndex, ClauseLink, narrow};
 use crate::fault::ElaborateFault;
 use lrat_text::Hint;
 use std::alloc::{AllocError, Global};
 
-/// A hint in four bytes: the clause, and whether it is resolved with the one that is added.
+/// A hint in four bytes: the clause, and whether it is a RAT candidate.
 #[derive(Clone, Copy)]
 pub(crate) struct PackedHint(u32);
 
 impl PackedHint {
+    /// Returns the antecedent hint of a clause.
     pub(crate) fn along(clause: ClauseIndex) -> PackedHint {
         PackedHint(clause.number().wrapping_mul(2))
     }
 
+    /// Returns the candidate hint of a clause.
     pub(crate) fn against(clause: ClauseIndex) -> PackedHint {
         PackedHint(clause.number().wrapping_mul(2) | 1)
     }
 
+    /// Returns the clause.
     pub(crate) fn clause(self) -> ClauseIndex {
         ClauseIndex::from_number(self.0 / 2)
     }
 
-    /// Whether the clause is resolved with the one that is added.
+    /// Returns whether the clause is a RAT candidate.
     pub(crate) fn is_against(self) -> bool {
         self.0 % 2 == 1
     }
 
-    /// The hint, where the clause has this id.
+    /// Returns the hint, over the id of its clause.
     pub(crate) fn with_id(self, id: u64) -> Hint {
         if self.0 % 2 == 0 {
             Hint::Along(id)
@@ -72,7 +75,8 @@ impl Records {
         }
     }
 
-    /// Keeps what was found of a clause, each list from its end on. The leading hints are given so.
+    /// Pushes the record of a clause. `leading` has the last hint first; the other lists are in
+    /// order.
     pub(crate) fn push(
         &mut self,
         clause: ClauseLink,
@@ -97,13 +101,13 @@ impl Records {
         Ok(())
     }
 
-    /// Keeps a hint of a group.
+    /// Pushes a hint of a RAT candidate.
     fn push_hint(&mut self, base: u32, hint: PackedHint) -> Result<(), AllocError> {
         self.numbers.push(hint.0 % 2)?;
         self.numbers.push(base.wrapping_sub(hint.clause().number()))
     }
 
-    /// Takes the last record off. The answer is whether there was one.
+    /// Pops the last record into `record`. Returns whether there was one.
     pub(crate) fn pop(&mut self, record: &mut Record) -> Result<bool, AllocError> {
         if self.numbers.is_empty() {
             return Ok(false);
@@ -118,7 +122,7 @@ impl Records {
         Ok(true)
     }
 
-    /// Takes off the leading hints, and then those of the groups.
+    /// Pops the leading hints, and then those of the candidates.
     fn pop_hints(&mut self, base: u32, hints: &mut Vec<PackedHint>) -> Result<(), AllocError> {
         hints.clear();
         for _ in 0..self.numbers.pop() {
@@ -135,6 +139,7 @@ impl Records {
         Ok(())
     }
 
+    /// Pops the number of a clause, kept as its distance before `base`.
     #[inline(always)]
     fn pop_clause(&mut self, base: u32) -> ClauseIndex {
         ClauseIndex::from_number(base.wrapping_sub(self.numbers.pop()))

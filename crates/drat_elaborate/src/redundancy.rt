@@ -1,4 +1,4 @@
-//! The check that a clause is redundant by a witness, as by its first literal.
+//! The check that a clause is redundant by a witness (PR), of which RAT is a case.
 use crate::arena::Block;
 use crate::check::{After, Assumed, Check};
 use crate::clauses::ClauseIndex;
@@ -10,22 +10,22 @@ use crate::records::PackedHint;
 use crate::trail::Value;
 use std::alloc::Global;
 
-/// Whether a clause is redundant by a witness, which has a literal of it: a model of the clauses
-/// that are there becomes one of the clause too, by making the witness true. The negated literals
-/// of the clause are assumed and propagated without a conflict. The hints are left in the check.
+/// Returns whether a clause is redundant by a witness, which has a literal of the clause: each
+/// model of the live clauses becomes a model of the clause too when the witness is made true. The
+/// negated literals of the clause are assumed and propagated without a conflict. The hints are left
+/// in the check.
 ///
-/// It is checked against the used clauses that are there and have the negation of a literal of the
-/// witness, also those that come into use by the check itself. Where the witness is the pivot
-/// alone, they are those with the negated pivot.
+/// The clause is checked against the live used clauses that have the negation of a literal of the
+/// witness, including those that the check itself uses first. If the witness is the pivot alone,
+/// these are the RAT candidates.
 pub(crate) fn is_redundant(
     alloc: Global,
     propagator: &mut Propagator,
     check: &mut Check,
-    occurrences: &Occurrences,
-    clause: ClauseIndex,
+    occurrences: &mut Occurrences,
     witness: &[LocalLit],
 ) -> Result<bool, ElaborateFault> {
-    let mut candidates = candidates(alloc, propagator, check, occurrences, clause, witness)?;
+    let mut candidates = candidates(alloc, propagator, check, occurrences, witness)?;
     let mut seen = check.fresh.len();
     // Each clause is a candidate at most once.
     for next in 0..propagator.clauses.len().saturating_add(1) {
@@ -45,25 +45,21 @@ pub(crate) fn is_redundant(
     Err(ElaborateFault::Internal)
 }
 
-/// The used clauses before one that are there and that its witness touches, each once. The witness
-/// is left in the check.
+/// Returns the live used clauses that a witness touches, each once. The witness is left in the
+/// check.
 fn candidates(
     alloc: Global,
     propagator: &Propagator,
     check: &mut Check,
-    occurrences: &Occurrences,
-    clause: ClauseIndex,
+    occurrences: &mut Occurrences,
     witness: &[LocalLit],
 ) -> Result<Vec<ClauseIndex>, ElaborateFault> {
     let mut candidates = Vec::new(alloc);
     check.by_witness.clear()?;
     for lit in witness {
         // Those that a literal before touches are among them already.
-        for found in occurrences.of(!*lit) {
-            if found.get() < clause.get()
-                && propagator.clauses.get(*found)?.is_candidate()
-                && !is_touched(propagator.clauses.lits(*found)?, check)
-            {
+        for found in occurrences.of(&propagator.clauses, !*lit)? {
+            if !is_touched(propagator.clauses.lits(*found)?, check) {
                 candidates.push(*found)?;
             }
         }
@@ -72,17 +68,17 @@ fn candidates(
     Ok(candidates)
 }
 
-/// Whether a clause has the negation of a literal of the witness.
+/// Returns whether a clause has the negation of a literal of the witness.
 fn is_touched(lits: &[LocalLit], check: &Check) -> bool {
     lits.iter().any(|lit| check.by_witness.contains(!*lit))
 }
 
-/// Whether a clause has a literal of the witness.
+/// Returns whether a clause has a literal of the witness.
 fn is_satisfied(lits: &[LocalLit], check: &Check) -> bool {
     lits.iter().any(|lit| check.by_witness.contains(*lit))
 }
 
-/// Adds the clauses that the witness touches and that came into use since.
+/// Adds the clauses that the witness touches and that were used first since.
 fn add_fresh(
     propagator: &Propagator,
     check: &Check,
@@ -97,9 +93,9 @@ fn add_fresh(
     Ok(())
 }
 
-/// Whether a candidate stays true when the witness is made true: it has a literal of the witness,
-/// or what the witness does not falsify of it follows. Its group is added, without hints where it
-/// has such a literal.
+/// Returns whether a candidate stays true when the witness is made true: it has a literal of the
+/// witness, or the rest of it, without the literals that the witness falsifies, follows. Its hints
+/// are added, none if it has such a literal.
 fn meet(
     propagator: &mut Propagator,
     check: &mut Check,
@@ -125,8 +121,8 @@ fn meet(
     Ok(conflict.is_some())
 }
 
-/// A literal of a candidate that is true and that the witness does not falsify: an assumed one if
-/// there is one, else the one that has been true longest.
+/// Returns a true literal of a candidate that the witness does not falsify: an assumed one if there
+/// is one, else the one that has been true longest.
 fn best_true(
     propagator: &Propagator,
     check: &Check,

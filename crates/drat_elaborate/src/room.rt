@@ -1,19 +1,22 @@
-//! How much room a clause gets in the arena.
+//! The size classes of blocks in the arena.
 
-/// Up to this many words rooms are told apart by two words each, above by an eighth.
+/// Clauses of this many literals or more are long.
+pub(crate) const LONG: usize = 96;
+
+/// Up to this many words size classes differ by two words, above by an eighth.
 const FEW_WORDS: usize = 64;
 
-/// The room of a clause, which others of nearly its length get too.
+/// The size of a clause's block, which is that of clauses of nearly its length too.
 #[derive(Clone, Copy)]
 pub(crate) struct Room {
     words: usize,
 }
 
 impl Room {
-    /// The room of a clause of this many literals, with its number and its length.
+    /// Returns the size of the block of a clause of this many literals, with the words before them.
     #[inline(always)]
     pub(crate) fn of(len: usize) -> Room {
-        let words = len.saturating_add(2);
+        let words = len.saturating_add(if len < LONG { 2 } else { 4 });
         let below = if words <= FEW_WORDS {
             1
         } else {
@@ -26,11 +29,12 @@ impl Room {
         }
     }
 
+    /// Returns how many words the block has.
     pub(crate) fn words(self) -> usize {
         self.words
     }
 
-    /// Which of the rooms it is, the smallest first.
+    /// Returns the index of the size class, the smallest first.
     #[inline(always)]
     pub(crate) fn class(self) -> usize {
         if self.words <= FEW_WORDS {
@@ -45,7 +49,7 @@ impl Room {
     }
 }
 
-/// The place of the highest bit.
+/// Returns the position of the highest bit.
 #[inline(always)]
 fn log(number: usize) -> u32 {
     63u32.saturating_sub(number.leading_zeros())

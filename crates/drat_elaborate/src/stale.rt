@@ -1,8 +1,8 @@
-//! Lists of watches that still have clauses which went.
+//! Lists of watches that still have deleted clauses.
 //!
-//! To take a clause out of a list costs a look at each watch behind it. Where a list is long and
-//! the clause far from its end, it is left there, and so is what goes from that list next. Before
-//! anything is propagated such lists are put right, each in one pass.
+//! To take a clause out of a list costs a visit of each watch after it. In a long list a clause
+//! that is not close to the end stays, and so do those that are removed from that list next. Before
+//! anything is propagated such lists are cleaned, each in one pass.
 use crate::arena::Block;
 use crate::clauses::{Clause, Use};
 use crate::fault::ElaborateFault;
@@ -12,7 +12,7 @@ use crate::propagator::Propagator;
 use crate::watches::Watch;
 use std::alloc::Global;
 
-/// The literals whose lists have clauses that went.
+/// The literals whose lists have deleted clauses.
 #[derive(Drop)]
 pub(crate) struct StaleLists {
     lits: Vec<LocalLit>,
@@ -27,12 +27,13 @@ impl StaleLists {
         }
     }
 
+    /// Returns whether no list is stale.
     #[inline(always)]
     pub(crate) fn is_empty(&self) -> bool {
         self.lits.is_empty()
     }
 
-    /// The lists of a literal, which are not stale yet.
+    /// Notes that the lists of a literal are stale, if it was not noted before.
     fn insert(&mut self, lit: LocalLit) -> Result<(), ElaborateFault> {
         self.set.insert(lit)?;
         self.lits.push(lit)?;
@@ -41,7 +42,7 @@ impl StaleLists {
 }
 
 impl Propagator {
-    /// A clause is no longer watched by a literal.
+    /// Removes the watch of a clause from the list of a literal, or notes that the list is stale.
     #[inline(always)]
     pub(crate) fn unwatch_by(
         &mut self,
@@ -57,7 +58,7 @@ impl Propagator {
         Ok(())
     }
 
-    /// Puts the stale lists right.
+    /// Cleans the stale lists.
     #[inline(never)]
     pub(crate) fn refresh(&mut self) -> Result<(), ElaborateFault> {
         for place in 0..self.stale.lits.len() {
@@ -71,7 +72,7 @@ impl Propagator {
         self.stale.set.clear()
     }
 
-    /// Puts the list right that a literal has for clauses used so much.
+    /// Cleans the list of a literal for clauses of this use.
     fn refresh_list(&mut self, used: Use, lit: LocalLit) -> Result<(), ElaborateFault> {
         let Some(mut watches) = self.lists_of(used).take(lit) else {
             return Ok(());
@@ -84,7 +85,7 @@ impl Propagator {
         Ok(())
     }
 
-    /// Keeps one watch of each clause that is watched so. Their blocks are marked.
+    /// Keeps one watch of each clause that is still watched so. Their blocks are marked.
     fn keep_current(
         &mut self,
         watches: &mut Vec<Watch>,
@@ -112,8 +113,8 @@ impl Propagator {
         Ok(())
     }
 
-    /// How a block's clause is watched by a literal among those used so much, if it is. A block
-    /// that is marked, or free, has the number of no clause that is there.
+    /// Returns the watch by which a literal watches the clause of a block, among those of this use,
+    /// if it does. A block that is marked or free has the number of no live clause.
     fn current(
         &self,
         block: Block,

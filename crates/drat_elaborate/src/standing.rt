@@ -1,18 +1,19 @@
-//! What clauses come to under the true literals.
+//! The status of clauses under the assignment.
 use crate::local::LocalLit;
 use crate::trail::{Value, value_in};
 
-/// What a clause comes to under the true literals.
+/// The status of a clause under the assignment.
 #[derive(Clone, Copy)]
 pub(crate) enum Standing {
     False,
     /// All literals but this one are false.
     Unit(LocalLit),
-    /// A literal is true, or two are free.
+    /// A literal is true, or two are unassigned.
     Other,
 }
 
 impl Standing {
+    /// Returns the status of a clause.
     pub(crate) fn of(lits: &[LocalLit], values: &[Value]) -> Standing {
         let mut free = None;
         for lit in lits {
@@ -29,7 +30,7 @@ impl Standing {
     }
 }
 
-/// What a clause comes to under the true literals, where its best two stand first.
+/// The status of a clause under the assignment, if its best two literals are the first ones.
 #[derive(Clone, Copy)]
 pub(crate) enum WatchStanding {
     True,
@@ -39,6 +40,7 @@ pub(crate) enum WatchStanding {
 }
 
 impl WatchStanding {
+    /// Returns the status of a clause, by its first two literals.
     pub(crate) fn of(lits: &[LocalLit], values: &[Value]) -> WatchStanding {
         let Some(first) = lits.first().copied() else {
             return WatchStanding::False;

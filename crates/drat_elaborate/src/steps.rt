@@ -1,4 +1,4 @@
-//! The steps of the proof, and where they made the trail longer.
+//! The steps of the proof, and where they extended the trail.
 use crate::byte_stack::ByteStack;
 use crate::clauses::{ClauseIndex, ClauseLink, narrow};
 use crate::fault::ElaborateFault;
@@ -13,7 +13,7 @@ pub(crate) enum Step {
     Nothing,
 }
 
-/// How long the trail was before a step that made it longer.
+/// The length of the trail before a step that extended it.
 #[derive(Clone, Copy)]
 struct Growth {
     /// Steps count from 1.
@@ -21,10 +21,10 @@ struct Growth {
     len: u32,
 }
 
-/// The steps so far, and which of them made the trail longer.
+/// The steps so far, and which of them extended the trail.
 ///
-/// Clauses are added in the order of their numbers. So a step is one number: that of an addition
-/// says nothing more, and that of a deletion how many clauses came since the one that is deleted.
+/// Clauses are added in the order of their numbers. So a step is one number: that of an addition is
+/// fixed, and that of a deletion has how many clauses were added since the deleted one.
 #[derive(Drop)]
 pub(crate) struct Steps {
     numbers: ByteStack,
@@ -54,16 +54,22 @@ impl Steps {
         }
     }
 
-    /// This many clauses there are before the first step.
+    /// Begins the proof, after this many clauses.
     pub(crate) fn begin(&mut self, formula_len: usize) -> Result<(), ElaborateFault> {
         self.clauses = narrow(formula_len)?;
         Ok(())
     }
 
+    /// Returns how many steps there are.
     pub(crate) fn len(&self) -> u64 {
         self.len
     }
 
+    /// Adds a step.
+    ///
+    /// # Errors
+    ///
+    /// `TooLong` if 32 bits can't count it.
     pub(crate) fn push(&mut self, step: Step) -> Result<(), ElaborateFault> {
         let number = match step {
             Step::Add(clause) => {
@@ -87,7 +93,7 @@ impl Steps {
         Ok(())
     }
 
-    /// The last step made the trail longer, which had this length.
+    /// Notes that the last step extended the trail, which had this length before.
     pub(crate) fn push_growth(&mut self, len: usize) -> Result<(), ElaborateFault> {
         let growth = Growth {
             step: narrow(self.len as usize)?,
@@ -97,12 +103,12 @@ impl Steps {
         Ok(())
     }
 
-    /// The clause that the last step added, if it added one.
+    /// Returns the clause that the last step added, if it added one.
     pub(crate) fn last_added(&self) -> Option<ClauseIndex> {
         self.last_added.get()
     }
 
-    /// Takes the last step off.
+    /// Takes the last step off and returns it, if there is one.
     pub(crate) fn pop(&mut self) -> Option<Step> {
         if self.numbers.is_empty() {
             return None;
@@ -121,7 +127,8 @@ impl Steps {
         Some(Step::Delete(ClauseIndex::from_number(deleted)))
     }
 
-    /// The length of the trail before the step that was taken off last, where it made it longer.
+    /// Returns the length of the trail before the step that was taken off last, if that step
+    /// extended it.
     pub(crate) fn pop_growth(&mut self) -> Option<usize> {
         let (step, len) = match self.growths.last() {
             Some(growth) => (growth.step as u64, growth.len as usize),

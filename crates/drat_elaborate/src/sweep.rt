@@ -1,11 +1,12 @@
-//! One list of watches, gone through when its literal became false.
+//! One list of watches, visited when its literal became false.
 use crate::arena::Block;
+use crate::clauses::narrow;
 use crate::fault::ElaborateFault;
 use crate::local::LocalLit;
 use crate::trail::{Trail, Value};
 use crate::watches::{Watch, push_watch};
 
-/// What a list came to, up to the first clause that is unit or false.
+/// The result of visiting a list, up to the first clause that is unit or false.
 #[derive(Clone, Copy)]
 pub(crate) enum Sweep {
     End,
@@ -18,7 +19,7 @@ pub(crate) enum Sweep {
     Conflict(Block),
 }
 
-/// What a clause comes to whose watched literal became false.
+/// The status of a clause whose watched literal became false.
 #[derive(Clone, Copy)]
 enum Found {
     /// This literal of it is true.
@@ -27,19 +28,23 @@ enum Found {
     Moved(LocalLit, LocalLit),
     Unit(LocalLit),
     Conflict,
+    /// It is a long clause, which was not visited.
+    Long,
 }
 
-/// What a watch came to.
+/// The result of visiting a watch.
 #[derive(Clone, Copy)]
 enum Visited {
     /// Its clause is true, or is watched by another literal now.
     Open,
     Unit(LocalLit, Block),
     Conflict(Block),
+    /// It is that of a long clause, which was not visited.
+    Long,
 }
 
-/// Goes through the first `end` clauses of a literal's list, the last one first, down to the first
-/// that is unit or false.
+/// Visits the first `end` clauses of a literal's list, the last one first, down to the first that
+/// is unit or false. Returns which it is.
 #[inline(always)]
 pub(crate) fn sweep_list(
     words: &mut [LocalLit],
@@ -60,13 +65,43 @@ pub(crate) fn sweep_list(
                 });
             }
             Visited::Conflict(block) => return Ok(Sweep::Conflict(block)),
+            Visited::Long => {
+                return sweep_list_with_long(words, trail, lists, falsified, at.saturating_add(1));
+            }
         }
     }
     Ok(Sweep::End)
 }
 
-/// Goes through a whole list. What its clauses force is made true. The answer is the clause of a
-/// conflict.
+/// Continues `sweep_list` at a long clause. It is a function of its own, so that long clauses cost
+/// the others nothing.
+#[cold]
+#[inline(never)]
+fn sweep_list_with_long(
+    words: &mut [LocalLit],
+    trail: &Trail,
+    lists: &mut [Vec<Watch>],
+    falsified: LocalLit,
+    end: usize,
+) -> Result<Sweep, ElaborateFault> {
+    for at in (0..end).rev() {
+        match visit_any(words, trail.values(), lists, falsified, at)? {
+            Visited::Open | Visited::Long => {}
+            Visited::Unit(lit, block) => {
+                return Ok(Sweep::Unit {
+                    lit,
+                    block,
+                    end: at,
+                });
+            }
+            Visited::Conflict(block) => return Ok(Sweep::Conflict(block)),
+        }
+    }
+    Ok(Sweep::End)
+}
+
+/// Visits a whole list, and assigns what its clauses imply. Returns the clause of a conflict, if
+/// there is one.
 #[inline(always)]
 pub(crate) fn sweep_whole(
     words: &mut [LocalLit],
@@ -79,12 +114,35 @@ pub(crate) fn sweep_whole(
             Visited::Open => {}
             Visited::Unit(lit, block) => trail.assign(lit, block)?,
             Visited::Conflict(block) => return Ok(Some(block)),
+            Visited::Long => {
+                return sweep_whole_with_long(words, trail, lists, falsified, at.saturating_add(1));
+            }
         }
     }
     Ok(None)
 }
 
-/// How many clauses a literal watches.
+/// Continues `sweep_whole` at a long clause.
+#[cold]
+#[inline(never)]
+fn sweep_whole_with_long(
+    words: &mut [LocalLit],
+    trail: &mut Trail,
+    lists: &mut [Vec<Watch>],
+    falsified: LocalLit,
+    end: usize,
+) -> Result<Option<Block>, ElaborateFault> {
+    for at in (0..end).rev() {
+        match visit_any(words, trail.values(), lists, falsified, at)? {
+            Visited::Open | Visited::Long => {}
+            Visited::Unit(lit, block) => trail.assign(lit, block)?,
+            Visited::Conflict(block) => return Ok(Some(block)),
+        }
+    }
+    Ok(None)
+}
+
+/// Returns how many clauses a literal watches.
 #[inline(always)]
 pub(crate) fn len_of(lists: &[Vec<Watch>], lit: LocalLit) -> usize {
     match lists.get(lit.place()) {
@@ -93,10 +151,10 @@ pub(crate) fn len_of(lists: &[Vec<Watch>], lit: LocalLit) -> usize {
     }
 }
 
-/// Looks at one watch of a literal that became false. Where a second literal of the clause is free,
-/// the watch moves to the list of that one, and the last watch of the list, which was looked at
-/// before, takes its place. Where a literal is true, the watch stays: what one propagation makes
-/// true becomes free all at once.
+/// Visits one watch of a literal that became false. If a second literal of the clause is
+/// unassigned, the watch moves to the list of that one, and the last watch of the list, which was
+/// visited before, takes its slot. If a literal is true, the watch stays: what one propagation
+/// assigns is unassigned all at once.
 #[inline(always)]
 fn visit(
     words: &mut [LocalLit],
@@ -131,10 +189,52 @@ fn visit(
         }
         Found::Unit(lit) => Ok(Visited::Unit(lit, watch.block())),
         Found::Conflict => Ok(Visited::Conflict(watch.block())),
+        Found::Long => Ok(Visited::Long),
     }
 }
 
-/// What a clause comes to of which all literals but one are false. That one is not true.
+/// Visits one watch, whether or not its clause is long.
+fn visit_any(
+    words: &mut [LocalLit],
+    values: &[Value],
+    lists: &mut [Vec<Watch>],
+    falsified: LocalLit,
+    at: usize,
+) -> Result<Visited, ElaborateFault> {
+    match visit(words, values, lists, falsified, at)? {
+        Visited::Long => visit_long(words, values, lists, falsified, at),
+        visited => Ok(visited),
+    }
+}
+
+/// Visits one watch of a long clause.
+fn visit_long(
+    words: &mut [LocalLit],
+    values: &[Value],
+    lists: &mut [Vec<Watch>],
+    falsified: LocalLit,
+    at: usize,
+) -> Result<Visited, ElaborateFault> {
+    let list = falsified.place();
+    if list >= lists.len() || at >= lists[list].len() {
+        return Err(ElaborateFault::Internal);
+    }
+    let watch = lists[list][at];
+    match look_in_long(words, watch.block(), falsified, values)? {
+        Found::True(blocker) => lists[list][at] = watch.with_blocker(blocker),
+        Found::Moved(to, blocker) => {
+            lists[list].swap_remove(at);
+            push_watch(lists, to, watch.with_blocker(blocker))?;
+        }
+        Found::Unit(lit) => return Ok(Visited::Unit(lit, watch.block())),
+        Found::Conflict => return Ok(Visited::Conflict(watch.block())),
+        Found::Long => {}
+    }
+    Ok(Visited::Open)
+}
+
+/// Returns the status of a clause all of whose other literals are false. The remaining one is not
+/// true.
 #[inline(always)]
 fn forced(lit: LocalLit, value: Value) -> Found {
     if value == Value::False {
@@ -144,7 +244,7 @@ fn forced(lit: LocalLit, value: Value) -> Found {
     }
 }
 
-/// Looks for a literal of a clause that is not false, to be watched in place of one that became
+/// Searches a clause for a literal that is not false, to be watched in place of one that became
 /// false.
 #[inline(always)]
 fn look(
@@ -160,7 +260,7 @@ fn look(
     }
     let end = start + words[start - 1].code() as usize;
     if end > words.len() {
-        return Err(ElaborateFault::Internal);
+        return Ok(Found::Long);
     }
     let other = LocalLit::other_of(words[start], words[start + 1], falsified);
     let value = known(values, other)?;
@@ -183,7 +283,78 @@ fn look(
     Ok(forced(other, value))
 }
 
-/// What is known of a literal of a clause.
+/// Does what `look` does for a long clause: the search starts where the last one ended.
+fn look_in_long(
+    words: &mut [LocalLit],
+    block: Block,
+    falsified: LocalLit,
+    values: &[Value],
+) -> Result<Found, ElaborateFault> {
+    // Its literals come after its number, a mark, its length and that place.
+    let start = block.code() as usize + 4;
+    if start + 2 > words.len() {
+        return Err(ElaborateFault::Internal);
+    }
+    let end = start + words[start - 2].code() as usize;
+    if end > words.len() {
+        return Err(ElaborateFault::Internal);
+    }
+    let other = LocalLit::other_of(words[start], words[start + 1], falsified);
+    let value = known(values, other)?;
+    if value == Value::True {
+        return Ok(Found::True(other));
+    }
+    let last = start + words[start - 1].code() as usize;
+    let Some(place) = unfalsified(&words[..end], start + 2, last, values)? else {
+        return Ok(forced(other, value));
+    };
+    if place < start || place >= end {
+        return Err(ElaborateFault::Internal);
+    }
+    words[start - 1] = LocalLit::from_code(narrow(place - start)?);
+    let lit = words[place];
+    if known(values, lit)? == Value::True {
+        return Ok(Found::True(lit));
+    }
+    words[place] = falsified;
+    words[start] = other;
+    words[start + 1] = lit;
+    Ok(Found::Moved(lit, other))
+}
+
+/// Returns the place of a literal from `first` on that is not false, if there is one. Those from
+/// `last` on are tried first.
+fn unfalsified(
+    words: &[LocalLit],
+    first: usize,
+    last: usize,
+    values: &[Value],
+) -> Result<Option<usize>, ElaborateFault> {
+    match unfalsified_from(words, last.max(first), values)? {
+        Some(place) => Ok(Some(place)),
+        None => unfalsified_from(words, first, values),
+    }
+}
+
+/// Returns the first place from `from` on whose literal is not false, if there is one.
+fn unfalsified_from(
+    words: &[LocalLit],
+    from: usize,
+    values: &[Value],
+) -> Result<Option<usize>, ElaborateFault> {
+    for place in from..words.len() {
+        if known(values, words[place])? != Value::False {
+            return Ok(Some(place));
+        }
+    }
+    Ok(None)
+}
+
+/// Returns the value of a literal of a clause.
+///
+/// # Errors
+///
+/// `Internal` if there is no such literal.
 #[inline(always)]
 fn known(values: &[Value], lit: LocalLit) -> Result<Value, ElaborateFault> {
     values

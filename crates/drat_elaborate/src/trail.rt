@@ -1,11 +1,11 @@
-//! Which literals are true, in what order they became so, and why.
+//! The trail: the assigned literals in order, with their reasons.
 use crate::arena::Block;
 use crate::clauses::narrow;
 use crate::fault::ElaborateFault;
 use crate::local::LocalLit;
 use std::alloc::{AllocError, Global};
 
-/// What is known of a literal.
+/// The value of a literal.
 #[derive(Clone, Copy, PartialEq, Eq)]
 pub(crate) enum Value {
     Free,
@@ -13,10 +13,10 @@ pub(crate) enum Value {
     False,
 }
 
-/// Why and where a variable got its value.
+/// The reason and the position of an assigned variable.
 #[derive(Clone, Copy)]
 struct Cause {
-    /// The clause that forces it, or none where it is assumed.
+    /// The clause that implies it, or none if it is assumed.
     reason: Block,
     place: u32,
 }
@@ -26,7 +26,7 @@ struct Cause {
 pub(crate) struct Trail {
     /// By code of the literal.
     values: Vec<Value>,
-    /// By index of the variable; of use only where it has a value.
+    /// By index of the variable; unspecified if it is unassigned.
     causes: Vec<Cause>,
     lits: Vec<LocalLit>,
 }
@@ -40,7 +40,7 @@ impl Trail {
         }
     }
 
-    /// Makes room for this many variables, of which there were fewer.
+    /// Allocates slots for this many variables, at least as many as before.
     pub(crate) fn make_room(&mut self, count: usize) -> Result<(), AllocError> {
         let cause = Cause {
             reason: Block::none(),
@@ -50,41 +50,48 @@ impl Trail {
         self.values.resize(count.saturating_mul(2), Value::Free)
     }
 
+    /// Returns how many literals are assigned.
     pub(crate) fn len(&self) -> usize {
         self.lits.len()
     }
 
-    /// Twice the number of variables.
+    /// Returns twice the number of variables.
     pub(crate) fn lit_count(&self) -> usize {
         self.values.len()
     }
 
-    /// The literals that are true, in order.
+    /// Returns the literals that are true, in order.
     #[inline(always)]
     pub(crate) fn lits(&self) -> &[LocalLit] {
         self.lits.as_slice()
     }
 
+    /// Returns the literal at a position, if there is one.
     pub(crate) fn get(&self, place: usize) -> Option<LocalLit> {
         self.lits.get(place).copied()
     }
 
+    /// Returns the value of a literal.
     #[inline(always)]
     pub(crate) fn value(&self, lit: LocalLit) -> Value {
         value_in(&self.values, lit)
     }
 
-    /// What is known of the literals, by their places.
+    /// Returns the values of the literals, by their codes.
     pub(crate) fn values(&self) -> &[Value] {
         self.values.as_slice()
     }
 
-    /// The clause that forced the variable of a literal.
+    /// Returns the reason of a literal's variable, `None` if it was assumed.
     pub(crate) fn reason(&self, lit: LocalLit) -> Option<Block> {
         self.causes.get(lit.variable())?.reason.known()
     }
 
-    /// The place of the variable of a literal that has a value.
+    /// Returns the position of a literal's variable.
+    ///
+    /// # Errors
+    ///
+    /// `Internal` if it is unassigned.
     pub(crate) fn place(&self, lit: LocalLit) -> Result<usize, ElaborateFault> {
         match self.causes.get(lit.variable()) {
             Some(cause) => Ok(cause.place as usize),
@@ -92,7 +99,8 @@ impl Trail {
         }
     }
 
-    /// Makes a free literal true, which a clause forces, or none where it is assumed.
+    /// Assigns an unassigned literal, with the clause that implies it, or no block if it is
+    /// assumed.
     #[inline(always)]
     pub(crate) fn assign(&mut self, lit: LocalLit, reason: Block) -> Result<(), ElaborateFault> {
         let place = narrow(self.lits.len())?;
@@ -106,7 +114,7 @@ impl Trail {
         Ok(())
     }
 
-    /// The literals from a place on are free again.
+    /// Unassigns the literals from a position on.
     pub(crate) fn cut(&mut self, len: usize) {
         let values = self.values.as_mut_slice();
         for lit in self.lits.get(len..).unwrap_or(&[]) {
@@ -115,6 +123,7 @@ impl Trail {
         self.lits.truncate(len);
     }
 
+    /// Returns the position of a literal's variable, or 0 if there is no such variable.
     fn place_or_0(&self, lit: LocalLit) -> u32 {
         match self.causes.get(lit.variable()) {
             Some(cause) => cause.place,
@@ -122,8 +131,8 @@ impl Trail {
         }
     }
 
-    /// How good a literal is to be watched: one that has been true longest is best, then a free
-    /// one, then one that became false late.
+    /// Returns how good a literal is to watch: the highest for one that has been true longest, then
+    /// for an unassigned one, then for one that became false late.
     pub(crate) fn rank(&self, lit: LocalLit) -> u64 {
         match self.value(lit) {
             Value::Free => 0x100_0000_0000,
@@ -133,13 +142,13 @@ impl Trail {
     }
 }
 
-/// What is known of a literal.
+/// Returns the value of a literal. One without a slot is unassigned.
 #[inline(always)]
 pub(crate) fn value_in(values: &[Value], lit: LocalLit) -> Value {
     values.get(lit.place()).copied().unwrap_or(Value::Free)
 }
 
-/// Sets what is known of a literal.
+/// Sets the value of a literal.
 #[inline(always)]
 fn set_value(values: &mut [Value], lit: LocalLit, value: Value) {
     if let Some(found) = values.get_mut(lit.place()) {
@@ -147,7 +156,7 @@ fn set_value(values: &mut [Value], lit: LocalLit, value: Value) {
     }
 }
 
-/// A literal and its negation are free.
+/// Unassigns a literal and its negation.
 #[inline(always)]
 fn set_free(values: &mut [Value], lit: LocalLit) {
     let start = lit.variable().saturating_mul(2);

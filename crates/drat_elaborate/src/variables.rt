@@ -6,19 +6,19 @@ use sat_formula::Lit;
 use std::alloc::Global;
 use std::collections::HashMap;
 
-/// This many places there are in `near` beside `PLACES_EACH` for each variable.
+/// `near` has this many slots in addition to `PLACES_EACH` for each variable.
 const SPARE_PLACES: usize = 1 << 16;
 
 const PLACES_EACH: usize = 16;
 
-/// The variables that came so far. Each has a number here, so that what is kept by variables pays
-/// for those that there are, whatever their names.
+/// The variables that came so far. Each has a number here, so that tables by variable need memory
+/// for those that occur, whatever their names.
 #[derive(Drop)]
 pub(crate) struct Variables {
     alloc: Global,
-    /// By index of the variable, its number here and 1 more; 0 where it has none, or is far.
+    /// By index of the variable, its number here and 1 more; 0 if it has none, or is in `far`.
     near: Vec<u32>,
-    /// The numbers of variables that came while their index was far above how many there were.
+    /// The numbers of variables whose index was too large for `near`.
     far: HashMap<u32, u32>,
     /// By number here, the index of the variable.
     indexes: Vec<u32>,
@@ -34,12 +34,12 @@ impl Variables {
         }
     }
 
-    /// How many variables there are.
+    /// Returns how many variables there are.
     pub(crate) fn len(&self) -> usize {
         self.indexes.len()
     }
 
-    /// The literal here. A variable that did not come before gets the next number.
+    /// Returns the literal over the variable's number here. A new variable gets the next number.
     #[inline(always)]
     pub(crate) fn local(&mut self, lit: Lit) -> Result<LocalLit, ElaborateFault> {
         let number = match self.near.get(lit.index()).copied() {
@@ -49,7 +49,7 @@ impl Variables {
         Ok(LocalLit::new(number, lit.is_negative()))
     }
 
-    /// The number of a variable that has no place in `near`.
+    /// Returns the number of a variable that has no slot in `near`.
     #[inline(never)]
     fn enter(&mut self, index: u32) -> Result<u32, ElaborateFault> {
         if let Some(number) = self.far.get(&index) {
@@ -61,6 +61,7 @@ impl Variables {
         Ok(number)
     }
 
+    /// Stores the number of a new variable.
     fn place(&mut self, index: u32, number: u32) -> Result<(), ElaborateFault> {
         let place = index as usize;
         let room = self.indexes.len().saturating_mul(PLACES_EACH);
@@ -75,7 +76,11 @@ impl Variables {
         Ok(())
     }
 
-    /// The literal by its own name.
+    /// Returns the literal over the variable's own name.
+    ///
+    /// # Errors
+    ///
+    /// `Internal` if there is no such variable.
     pub(crate) fn named(&self, lit: LocalLit) -> Result<Lit, ElaborateFault> {
         let index = match self.indexes.get(lit.variable()).copied() {
             Some(index) => index as usize,
@@ -86,7 +91,7 @@ impl Variables {
         )
     }
 
-    /// The literal of the variable above the largest one, where there is such a variable.
+    /// Returns the literal of the variable above the largest one, if there is such a variable.
     pub(crate) fn fresh_lit(&self) -> Option<Lit> {
         let mut end = 0;
         for index in &self.indexes {
@@ -95,7 +100,7 @@ impl Variables {
         Lit::from_code(end.saturating_mul(2))
     }
 
-    /// Gives back the memory that is of use only while variables come.
+    /// Frees the memory that only new variables need.
     pub(crate) fn end(&mut self) {
         self.near = Vec::new(self.alloc);
         self.far = HashMap::new(self.alloc);

@@ -5,7 +5,7 @@ use crate::local::LocalLit;
 use std::alloc::{AllocError, Global};
 use std::mem;
 
-/// A clause is sought among this many watches at the end of a list,
+/// A clause is searched for among this many watches at the end of a list,
 const NEAR: usize = 1024;
 
 /// or in the last one of this many parts of it.
@@ -23,6 +23,7 @@ impl Watch {
     /// The clause has two literals, so that the blocker is the other one.
     const BINARY: u32 = 1 << 31;
 
+    /// Returns the watch of a block with its blocker.
     pub(crate) fn new(block: Block, blocker: LocalLit, is_binary: bool) -> Watch {
         let tag = if is_binary { Watch::BINARY } else { 0 };
         Watch {
@@ -31,17 +32,19 @@ impl Watch {
         }
     }
 
+    /// Returns whether the clause has two literals.
     #[inline(always)]
     pub(crate) fn is_binary(self) -> bool {
         self.tagged & Watch::BINARY != 0
     }
 
+    /// Returns the block.
     #[inline(always)]
     pub(crate) fn block(self) -> Block {
         Block::from_code(self.tagged & !Watch::BINARY)
     }
 
-    /// The watch with another blocker.
+    /// Returns the watch with another blocker.
     #[inline(always)]
     pub(crate) fn with_blocker(self, blocker: LocalLit) -> Watch {
         Watch {
@@ -66,7 +69,7 @@ impl Watches {
         }
     }
 
-    /// Makes room for this many variables.
+    /// Allocates lists for this many variables.
     pub(crate) fn make_room(&mut self, count: usize) -> Result<(), AllocError> {
         for _ in self.lists.len()..count.saturating_mul(2) {
             self.lists.push(Vec::new(self.alloc))?;
@@ -74,18 +77,19 @@ impl Watches {
         Ok(())
     }
 
+    /// Adds a watch to the list of a literal.
     pub(crate) fn push(&mut self, lit: LocalLit, watch: Watch) -> Result<(), ElaborateFault> {
         push_watch(self.lists.as_mut_slice(), lit, watch)
     }
 
-    /// The lists, by literal.
+    /// Returns the lists, by code of the literal.
     #[inline(always)]
     pub(crate) fn all(&mut self) -> &mut [Vec<Watch>] {
         self.lists.as_mut_slice()
     }
 
-    /// Takes a clause out of the list of a literal, if it is not far from its end. The answer is
-    /// whether it was.
+    /// Removes a clause from the list of a literal, if it is close to its end. Returns whether it
+    /// was.
     #[inline(always)]
     pub(crate) fn remove(&mut self, lit: LocalLit, block: Block) -> Result<bool, ElaborateFault> {
         match self.lists.get_mut(lit.place()) {
@@ -94,8 +98,8 @@ impl Watches {
         }
     }
 
-    /// The first place from one on where a literal stands whose negation is watched; else their
-    /// number.
+    /// Returns the first position from one on of a literal whose negation is watched; else how many
+    /// literals there are.
     #[inline(always)]
     pub(crate) fn skip_unwatched(&self, lits: &[LocalLit], from: usize) -> usize {
         let mut place = from;
@@ -108,7 +112,7 @@ impl Watches {
         place
     }
 
-    /// Takes the list of a literal away, until it is put back. None where it is empty.
+    /// Takes the list of a literal away, until it is put back. `None` if it is empty.
     #[inline(always)]
     pub(crate) fn take(&mut self, lit: LocalLit) -> Option<Vec<Watch>> {
         match self.lists.get_mut(lit.place()) {
@@ -126,7 +130,7 @@ impl Watches {
     }
 }
 
-/// Puts a watch to the list of a literal.
+/// Adds a watch to the list of a literal.
 #[inline(always)]
 pub(crate) fn push_watch(
     lists: &mut [Vec<Watch>],
@@ -140,8 +144,8 @@ pub(crate) fn push_watch(
     Ok(())
 }
 
-/// Takes the last watch of a clause out of a list, if it is not far from its end. The answer is
-/// whether it was.
+/// Removes the last watch of a clause from a list, if it is close to its end. Returns whether it
+/// was.
 #[inline(always)]
 fn remove_from(list: &mut Vec<Watch>, block: Block) -> bool {
     let reach = (list.len() / FAR_SHARE).max(NEAR);

@@ -10,7 +10,7 @@
 //! - each literal of the witness, or `x`: redundant by that literal;
 //! - the clause itself, which follows; and the satisfied clauses again, which do too.
 //!
-//! Then all that has x is deleted.
+//! Then all clauses with x are deleted.
 
 use crate::clauses::{ClauseIndex, narrow};
 use crate::fault::ElaborateFault;
@@ -23,14 +23,14 @@ use lrat_text::Hint;
 use sat_formula::Lit;
 use std::alloc::Global;
 
-/// A clause that the witness touches, and the id of the line over x that stands for it.
+/// A clause that the witness touches, and the id of its line over x.
 #[derive(Clone, Copy)]
 struct Touched {
     clause: ClauseIndex,
     id: u64,
 }
 
-/// What the lines of a step are made with.
+/// The lines of a step, and what they are made of.
 #[derive(Drop)]
 pub(crate) struct WitnessLines {
     alloc: Global,
@@ -38,15 +38,15 @@ pub(crate) struct WitnessLines {
     /// The literal x, once it is known: its variable is the one above the largest of the formula
     /// and the proof.
     fresh: Option<Lit>,
-    /// By code of the literal, its place in the witness and 1 more; 0 where it is not in it.
+    /// By code of the literal, its index in the witness and 1 more; 0 if it is not in it.
     places: Vec<u32>,
     /// The clauses that are touched and not satisfied.
     reduced: Vec<Touched>,
     /// The clauses that are touched and satisfied.
     satisfied: Vec<Touched>,
-    /// By place in the witness, the hints of the literal's line.
+    /// By index in the witness, the hints of the literal's line.
     literal_hints: Vec<Vec<Hint>>,
-    /// By place in the witness, the id of the literal's line.
+    /// By index in the witness, the id of the literal's line.
     literal_ids: Vec<u64>,
 }
 
@@ -66,7 +66,7 @@ impl WitnessLines {
 
     /// Begins a step.
     fn begin(&mut self, forward: &Forward, witness: &[LocalLit]) -> Result<(), ElaborateFault> {
-        self.queue.clear();
+        self.begin_lines(forward);
         self.reduced.clear();
         self.satisfied.clear();
         self.literal_ids.clear();
@@ -76,13 +76,18 @@ impl WitnessLines {
         for (place, lit) in witness.iter().enumerate() {
             self.enter(*lit, place)?;
         }
-        if self.fresh.is_none() {
-            self.fresh = forward.variables.fresh_lit();
-        }
         Ok(())
     }
 
-    /// A literal has this place in the witness.
+    /// Empties the queue, and determines x, if there is one.
+    pub(crate) fn begin_lines(&mut self, forward: &Forward) {
+        self.queue.clear();
+        if self.fresh.is_none() {
+            self.fresh = forward.variables.fresh_lit();
+        }
+    }
+
+    /// Notes the index of a literal in the witness.
     fn enter(&mut self, lit: LocalLit, place: usize) -> Result<(), ElaborateFault> {
         if self.literal_hints.len() <= place {
             self.literal_hints.push(Vec::new(self.alloc))?;
@@ -96,19 +101,23 @@ impl WitnessLines {
         Ok(())
     }
 
-    /// The literal x, or its negation, is the next one of a line.
-    fn push_fresh(&mut self, is_negated: bool) -> Result<(), ElaborateFault> {
+    /// Adds the literal x, or its negation, to the next line.
+    ///
+    /// # Errors
+    ///
+    /// `NoFreshVariable` if there is no x.
+    pub(crate) fn push_fresh(&mut self, is_negated: bool) -> Result<(), ElaborateFault> {
         let fresh = self.fresh.ok_or(ElaborateFault::NoFreshVariable)?;
         self.queue.push_lit(if is_negated { !fresh } else { fresh })
     }
 
-    /// The place of a literal in the witness.
+    /// Returns the index of a literal in the witness, if it is in it.
     fn place_of(&self, lit: LocalLit) -> Option<usize> {
         let place = self.places.get(lit.place()).copied()? as usize;
         place.checked_sub(1)
     }
 
-    /// A place in the witness of a literal of a clause, where it has one.
+    /// Returns the index in the witness of a literal of a clause, if it has one.
     fn satisfied_at(&self, lits: &[LocalLit]) -> Option<usize> {
         for lit in lits {
             if let Some(place) = self.place_of(*lit) {
@@ -118,7 +127,7 @@ impl WitnessLines {
         None
     }
 
-    /// The lines of the literals whose negations are among these get some hints.
+    /// Adds hints to the lines of the literals whose negations are among these.
     fn hint_literals(&mut self, lits: &[LocalLit], hints: &[Hint]) -> Result<(), ElaborateFault> {
         for lit in lits {
             if let Some(place) = self.place_of(!*lit) {
@@ -130,7 +139,7 @@ impl WitnessLines {
         Ok(())
     }
 
-    /// The literals of a clause that the witness does not falsify are the next ones of a line.
+    /// Adds the literals of a clause that the witness does not falsify to the next line.
     fn push_rest(&mut self, forward: &Forward, lits: &[LocalLit]) -> Result<(), ElaborateFault> {
         for lit in lits {
             if self.place_of(!*lit).is_none() {
@@ -140,7 +149,7 @@ impl WitnessLines {
         Ok(())
     }
 
-    /// The hints of a line are those that a literal of the witness got.
+    /// Adds the hints of a literal of the witness to the next line.
     fn push_literal_hints(&mut self, place: usize) -> Result<(), ElaborateFault> {
         if let Some(hints) = self.literal_hints.get(place) {
             for hint in hints {
@@ -150,14 +159,18 @@ impl WitnessLines {
         Ok(())
     }
 
-    /// The id of the line of a literal of the witness.
+    /// Returns the id of the line of a literal of the witness.
+    ///
+    /// # Errors
+    ///
+    /// `Internal` if it has none.
     fn literal_id(&self, place: Option<usize>) -> Result<u64, ElaborateFault> {
         let place = place.ok_or(ElaborateFault::Internal)?;
         let id = self.literal_ids.get(place).copied();
         id.ok_or(ElaborateFault::Internal)
     }
 
-    /// No literal is in the witness any more.
+    /// Empties the table of indexes.
     fn end(&mut self, witness: &[LocalLit]) {
         for lit in witness {
             if let Some(place) = self.places.get_mut(lit.place()) {
@@ -168,7 +181,7 @@ impl WitnessLines {
 }
 
 impl Lines {
-    /// The lines of a clause that is redundant by a witness wait in the queue.
+    /// Queues the lines of a clause that is redundant by a witness.
     pub(crate) fn read_witnessed(
         &mut self,
         forward: &Forward,
@@ -190,14 +203,14 @@ impl Lines {
         self.end_witness(witness)
     }
 
-    /// The line that was begun adds a clause under the next id.
-    fn end_line(&mut self) -> Result<u64, ElaborateFault> {
+    /// Queues the addition that was begun, under the next id. Returns the id.
+    pub(crate) fn end_line(&mut self) -> Result<u64, ElaborateFault> {
         self.last_id = self.last_id.saturating_add(1);
         self.by_witness.queue.end_addition(self.last_id)?;
         Ok(self.last_id)
     }
 
-    /// For each clause that is touched and not satisfied, x or what the witness leaves of it.
+    /// Queues, for each clause that is touched and not satisfied, the line of x and the rest of it.
     fn tell_reduced(&mut self, forward: &Forward) -> Result<(), ElaborateFault> {
         for place in 0..self.record.hints.len() {
             let hint = self.hint(place)?;
@@ -221,13 +234,17 @@ impl Lines {
         Ok(())
     }
 
-    /// The hint of the record at a place.
+    /// Returns the hint of the record at an index.
+    ///
+    /// # Errors
+    ///
+    /// `Internal` if there is none.
     fn hint(&self, place: usize) -> Result<PackedHint, ElaborateFault> {
         let hint = self.record.hints.get(place).copied();
         hint.ok_or(ElaborateFault::Internal)
     }
 
-    /// The clause or -x. The answer is its id.
+    /// Queues the line of the clause or -x. Returns its id.
     fn tell_freed(
         &mut self,
         forward: &Forward,
@@ -238,9 +255,12 @@ impl Lines {
         let mut reduced = 0;
         for place in 0..self.record.hints.len() {
             let hint = self.hint(place)?;
+            // Without groups no hint is needed.
             if !hint.is_against() {
-                let id = id_in(&self.ids, hint.clause())?;
-                self.by_witness.queue.push_hint(Hint::Along(id))?;
+                if !self.by_witness.reduced.is_empty() {
+                    let id = id_in(&self.ids, hint.clause())?;
+                    self.by_witness.queue.push_hint(Hint::Along(id))?;
+                }
                 continue;
             }
             // A clause that is satisfied has no group, and no hints come after it.
@@ -258,15 +278,15 @@ impl Lines {
         Ok(id)
     }
 
-    /// The literals of the clause are the next ones of a line.
-    fn push_clause(&mut self) -> Result<(), ElaborateFault> {
+    /// Adds the literals of the clause to the next line.
+    pub(crate) fn push_clause(&mut self) -> Result<(), ElaborateFault> {
         for lit in &self.clause {
             self.by_witness.queue.push_lit(*lit)?;
         }
         Ok(())
     }
 
-    /// Each clause that is satisfied, or -x.
+    /// Queues, for each clause that is touched and satisfied, its line with -x.
     fn tell_satisfied(&mut self, forward: &Forward) -> Result<(), ElaborateFault> {
         for place in 0..self.by_witness.satisfied.len() {
             let touched = self.push_satisfied(forward, place)?;
@@ -283,7 +303,7 @@ impl Lines {
         Ok(())
     }
 
-    /// The literals of the satisfied clause at a place are the next ones of a line.
+    /// Adds the literals of the satisfied clause at an index to the next line. Returns it.
     fn push_satisfied(
         &mut self,
         forward: &Forward,
@@ -302,7 +322,7 @@ impl Lines {
         Ok(touched)
     }
 
-    /// The clauses that are satisfied go.
+    /// Queues the deletion of the satisfied clauses.
     fn delete_satisfied(&mut self) -> Result<(), ElaborateFault> {
         for touched in &self.by_witness.satisfied {
             let own = id_in(&self.ids, touched.clause)?;
@@ -311,7 +331,7 @@ impl Lines {
         self.by_witness.queue.end_deletion()
     }
 
-    /// Each literal of the witness, or x.
+    /// Queues, for each literal of the witness, its line with x.
     fn tell_literals(
         &mut self,
         forward: &Forward,
@@ -329,8 +349,8 @@ impl Lines {
         Ok(())
     }
 
-    /// The clause follows: without x by its first literal, with which the witness begins, and with
-    /// x by the line of this id.
+    /// Queues the line of the clause, which follows: without x by its first literal, with which the
+    /// witness begins, and with x by the line of this id.
     fn tell_clause(&mut self, clause: ClauseIndex, freed: u64) -> Result<(), ElaborateFault> {
         self.push_clause()?;
         let id = self.by_witness.literal_id(Some(0))?;
@@ -340,7 +360,7 @@ impl Lines {
         self.by_witness.queue.end_addition(self.last_id)
     }
 
-    /// The clauses that are satisfied follow again, under new ids.
+    /// Queues the satisfied clauses, which follow again, under new ids.
     fn tell_satisfied_again(&mut self, forward: &Forward) -> Result<(), ElaborateFault> {
         for place in 0..self.by_witness.satisfied.len() {
             let touched = self.push_satisfied(forward, place)?;
@@ -354,7 +374,7 @@ impl Lines {
         Ok(())
     }
 
-    /// All that has x goes once the lines are told.
+    /// Queues the deletion of all clauses with x.
     fn end_witness(&mut self, witness: &[LocalLit]) -> Result<(), ElaborateFault> {
         for touched in &self.by_witness.reduced {
             self.dying.push(touched.id)?;

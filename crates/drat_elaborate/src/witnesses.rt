@@ -26,7 +26,7 @@ impl Witnesses {
         }
     }
 
-    /// The witness of a clause, which comes after those that have one.
+    /// Stores the witness of a clause, which comes after all that have one.
     fn push(&mut self, clause: ClauseIndex, witness: &[LocalLit]) -> Result<(), ElaborateFault> {
         let start = narrow(self.lits.len())?;
         self.lits.extend_from_slice(witness)?;
@@ -35,7 +35,7 @@ impl Witnesses {
         Ok(())
     }
 
-    /// The witness of a clause, where it has one besides its first literal.
+    /// Returns the witness of a clause, if it has one other than its first literal.
     pub(crate) fn of(&self, clause: ClauseIndex) -> Option<&[LocalLit]> {
         let Ok(place) = self.clauses.binary_search(&clause.number()) else {
             return None;
@@ -48,8 +48,8 @@ impl Witnesses {
         self.lits.get(start..end)
     }
 
-    /// The witness by which the clause of a record is redundant. None where it follows, or is
-    /// redundant by its pivot; then a line says so.
+    /// Returns the witness by which the clause of a record is redundant. `None` if the clause
+    /// follows or is RAT on its pivot; then one line adds it.
     pub(crate) fn of_record(&self, record: &Record) -> Option<&[LocalLit]> {
         let witness = self.of(record.clause.get()?)?;
         if record.hints.iter().any(|hint| hint.is_against()) {
@@ -61,12 +61,14 @@ impl Witnesses {
 }
 
 impl Elaborator {
-    /// The proof adds a clause as DPR has it: where its first literal comes again, the literals
-    /// from there on are no part of the clause, but its witness. It claims to follow, or to be
-    /// redundant by the witness; without one by its first literal. After a conflict it is passed
-    /// over.
+    /// Adds a clause of a DPR proof: if its first literal is repeated, the literals from there on
+    /// are its witness and no part of the clause. It should follow, or be redundant by the witness;
+    /// without one, be RAT on its first literal. It is not checked yet. After a conflict it is
+    /// ignored.
     ///
-    /// `ContradictoryWitness` where a witness has a literal and its negation.
+    /// # Errors
+    ///
+    /// `ContradictoryWitness` if a witness has a literal and its negation.
     pub fn add_dpr_lemma(&mut self, lits: &[Lit]) -> Result<(), ElaborateFault> {
         self.begin_proof()?;
         if self.is_refuted() {
@@ -79,8 +81,8 @@ impl Elaborator {
         self.forward.add_lemma(clause)
     }
 
-    /// Keeps the witness of the next clause, each literal once. One that is the clause's first
-    /// literal alone says no more than that.
+    /// Stores the witness of the next clause, each literal once. One that is just the clause's
+    /// first literal is not needed.
     pub(crate) fn keep_witness(&mut self, witness: &[Lit]) -> Result<(), ElaborateFault> {
         if self.forward.normalize(witness)? {
             let step = self.steps_left().saturating_add(1);
@@ -94,7 +96,8 @@ impl Elaborator {
     }
 }
 
-/// The clause of an addition and its witness, which begins where the first literal comes again.
+/// Returns the clause of an addition and its witness, which begins where the first literal is
+/// repeated.
 pub(crate) fn parts(lits: &[Lit]) -> (&[Lit], &[Lit]) {
     for place in 1..lits.len() {
         if lits[place] == lits[0] {

@@ -5,8 +5,8 @@ use crate::fault::ElaborateFault;
 use crate::local::LocalLit;
 use std::alloc::{AllocError, Global};
 
-/// Of each clause the number of its literals, and their codes. Of each number the lowest piece
-/// comes first, and all but the highest say that another one comes.
+/// For each clause the number of its literals and their codes. The lowest piece of each number is
+/// first, and all but the highest are marked with `MORE`.
 #[derive(Drop)]
 pub(crate) struct Written {
     bytes: Vec<u8>,
@@ -19,7 +19,7 @@ impl Written {
         }
     }
 
-    /// Keeps the literals of a clause. The answer is the place where they are.
+    /// Stores the literals of a clause. Returns the position where they begin.
     pub(crate) fn push(&mut self, lits: &[LocalLit]) -> Result<u32, ElaborateFault> {
         let place = narrow(self.bytes.len())?;
         self.push_number(narrow(lits.len())?)?;
@@ -29,6 +29,7 @@ impl Written {
         Ok(place)
     }
 
+    /// Appends a number.
     #[inline(always)]
     fn push_number(&mut self, number: u32) -> Result<(), AllocError> {
         let mut rest = number;
@@ -43,7 +44,7 @@ impl Written {
         Ok(())
     }
 
-    /// Reads the literals at a place into a list.
+    /// Reads the literals at a position into a list.
     pub(crate) fn read(&self, place: u32, lits: &mut Vec<LocalLit>) -> Result<(), AllocError> {
         lits.clear();
         let (count, mut rest) = take_number(self.bytes.get(place as usize..).unwrap_or(&[]));
@@ -56,7 +57,7 @@ impl Written {
     }
 }
 
-/// The first number of some bytes, and those behind it.
+/// Returns the first number of some bytes, and the bytes after it.
 #[inline(always)]
 fn take_number(bytes: &[u8]) -> (u32, &[u8]) {
     match bytes {
@@ -69,7 +70,7 @@ fn take_number(bytes: &[u8]) -> (u32, &[u8]) {
     }
 }
 
-/// The first number of some bytes, of whatever length, and those behind it.
+/// Returns the first number of some bytes, whatever its length, and the bytes after it.
 fn take_long(bytes: &[u8]) -> (u32, &[u8]) {
     let mut number = 0u32;
     let mut rest = bytes;

@@ -17,7 +17,7 @@ const THREE: &str = "1 2 0 1 -2 0 -1 3 0";
 /// text of the fault; where the piece is not verified, what is said of the first missing clause.
 type Row = (&'static str, &'static str, &'static str, &'static str);
 
-static RUNS: [Row; 25] = [
+static RUNS: [Row; 29] = [
     (THREE, THREE, "", PIECE),
     (THREE, "", "", PIECE),
     ("", "", "", PIECE),
@@ -77,6 +77,17 @@ static RUNS: [Row; 25] = [
     ("1 2 0 -1 -2 0", "1 2 0", "1 0\n", PIECE),
     // the reason of a literal stays
     (THREE, "1 0", "1 0\nd 1 0\n", PIECE),
+    // in FRAT a clause that got an id, one that is added, and one that is gone by its id
+    ("1 2 0", "1 2 0", "o 1 1 2 0\n", PIECE),
+    ("1 2 0", "1 3 0", "o 1 1 2 0\na 2 1 3 0\n", PIECE),
+    (
+        "1 2 0",
+        "1 3 0",
+        "o 1 1 2 0\na 2 1 3 0\nd 2 0\n",
+        "clause 1 is not there behind the piece: 1 3 0",
+    ),
+    // a tautology, and a clause that is redundant by a literal whose negation the tautology has
+    ("", "1 2 -2 0 -2 0", "1 2 -2 0\n-2 0\n", PIECE),
     // a conflict says more than what is wanted
     (FOUR, "5 0", "1 0\n", VERIFIED),
     ("1 0 -1 0", "5 0", "", VERIFIED),

@@ -110,7 +110,7 @@ static WITH_WITNESSES: [Row; 2] = [
         ALIKE_AT_MOST,
         &[(
             b"1 -2 1 -2 0\n1 0\n5 0\n",
-            "proof: no variable is left for the lines of a witness",
+            "proof: no variable is left for the lines of a witness or of a tautology",
         )],
     ),
 ];

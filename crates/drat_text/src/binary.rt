@@ -13,7 +13,7 @@ use crate::grammar::Grammar;
 use crate::step::StepEnd;
 use std::io::Read;
 
-/// Reads a step into a draft.
+/// Reads a step into a draft, and returns how it ended.
 pub(crate) fn binary_step<G: Grammar, R: Read>(
     bytes: &mut Bytes<R>,
     draft: &mut G,
@@ -51,7 +51,7 @@ fn codes<G: Grammar, R: Read>(
     }
 }
 
-/// Hands a binary number to a draft.
+/// Passes a binary number to a draft.
 #[inline(always)]
 fn take_code<G: Grammar>(draft: &mut G, code: u64) -> Result<Option<G::Found>, Stop>
     ensures { TakesNumber (G.step_of draft.new) (G.slot_of draft.new)

@@ -1,4 +1,4 @@
-//! The bytes of a proof, the first of which tell whether it is text.
+//! The bytes of a proof, the first of which show whether it is text.
 ghost use Rattle.std.specs.Prelude.{◌≡◌, ◌<◌, ◌≤◌, ◌+◌, ◌-◌, ◌^◌, [], IfOk, IsSome, IsTrue, length, take, vec_len};
 ghost use Rattle.std.specs.Io.KnownBytes.{Consumes};
 ghost use Rattle.sat_formula.specs.Source.{is_limited};
@@ -13,7 +13,7 @@ use std::io::Read;
 /// This many bytes are looked at before a proof counts as text.
 pub const LOOKED_AT: usize = 4096;
 
-/// How steps are written.
+/// How steps are written: as text or binary.
 #[derive(Clone, Copy, Debug, PartialEq, Eq)]
 pub enum Format {
     Text,
@@ -35,7 +35,7 @@ impl<R: Read> Bytes<R> {
     ghost use Rattle.drat_text.specs.Bytes.{by_text_bytes};
     ghost use Rattle.drat_text.specs.Taking.{ahead_in, front_of, unread_bytes, room_in, Takes, TakesWithin, Looks, Peeks};
 
-    /// All the bytes of a reader, up to `u64::MAX` of them.
+    /// Returns all bytes of a reader, up to `u64::MAX` of them. Reads nothing yet.
     pub fn new(alloc: Global, inner: R) -> Bytes<R>
         ensures bytes { unread_bytes R.remaining result ≡ R.remaining inner }
         ensures front { result.front.items ≡ [] }
@@ -44,7 +44,7 @@ impl<R: Read> Bytes<R> {
         Bytes::limited(alloc, inner, u64::MAX)
     }
 
-    /// All the bytes of a reader, up to this many of them.
+    /// Returns all bytes of a reader, up to this many of them. Reads nothing yet.
     pub fn limited(alloc: Global, inner: R, limit: u64) -> Bytes<R>
         ensures bytes { unread_bytes R.remaining result ≡ R.remaining inner }
         ensures front { result.front.items ≡ [] }
@@ -57,7 +57,7 @@ impl<R: Read> Bytes<R> {
         }
     }
 
-    /// The error of a stop by the source.
+    /// Returns the error of a stop by the source.
     pub fn error(&self) -> io::Error
         requires { IsStopped self.now.source }
         ensures { IsErrorOf self.now.source result }
@@ -65,7 +65,11 @@ impl<R: Read> Bytes<R> {
         self.source.error()
     }
 
-    /// Takes the next byte.
+    /// Takes the next byte and returns it.
+    ///
+    /// # Errors
+    ///
+    /// Why there is none: the end of the input, a failed read or out of memory.
     #[inline(always)]
     pub fn next_byte(&mut self) -> Result<u8, Stop>
         ensures byte { Takes (unread_bytes R.remaining self.old)
@@ -84,7 +88,11 @@ impl<R: Read> Bytes<R> {
         }
     }
 
-    /// Takes the next byte of a step that was begun, which is unfinished where the input ends.
+    /// Takes the next byte of a step that was begun, and returns it.
+    ///
+    /// # Errors
+    ///
+    /// As for `next_byte`, but the end of the input is the fault `Unfinished`.
     #[inline(always)]
     pub fn next_within(&mut self) -> Result<u8, Stop>
         ensures byte { TakesWithin (unread_bytes R.remaining self.old)
@@ -98,7 +106,7 @@ impl<R: Read> Bytes<R> {
         }
     }
 
-    /// The bytes that are read ahead, unless others stand in front of them.
+    /// Returns the bytes that are read ahead, unless others precede them.
     #[inline(always)]
     pub fn ahead(&self) -> &[u8]
         ensures { result.now ≡ ahead_in self.now }
@@ -120,8 +128,12 @@ impl<R: Read> Bytes<R> {
         self.source.take_ahead(count);
     }
 
-    /// Tells text from binary steps by whether each of the next bytes is one that a text can have,
-    /// and takes none of them.
+    /// Returns whether the proof is text or binary, by whether each of the next bytes is one that a
+    /// text can have. Takes no byte.
+    ///
+    /// # Errors
+    ///
+    /// A failed read or out of memory.
     pub fn look_on(&mut self) -> Result<Format, Stop>
         ensures format { Looks (λ bytes. by_text_bytes (take 4096 bytes))
             (unread_bytes R.remaining self.old) (unread_bytes R.remaining self.new)
@@ -141,8 +153,12 @@ impl<R: Read> Bytes<R> {
         Ok(Format::Text)
     }
 
-    /// The byte at a place of those to come, if there is one. It stands in front from then on, as
-    /// those before it do already.
+    /// Returns the byte at a position of those to come, or `None` if the input ends before it.
+    /// Takes no byte.
+    ///
+    /// # Errors
+    ///
+    /// A failed read or out of memory.
     pub fn peek(&mut self, place: usize) -> Result<Option<u8>, Stop>
         requires { place ≤ length (front_of self.old) }
         ensures peek { Peeks (unread_bytes R.remaining self.old)
@@ -156,7 +172,8 @@ impl<R: Read> Bytes<R> {
         self.pull()
     }
 
-    /// The next byte of the source, if there is one. It stands in front from then on, as the last.
+    /// Returns the next byte of the source, if there is one. It is in front from then on, as the
+    /// last.
     fn pull(&mut self) -> Result<Option<u8>, Stop>
         ensures peek { Peeks (unread_bytes R.remaining self.old)
             (unread_bytes R.remaining self.new) (length (front_of self.old)) self.new.source

@@ -12,7 +12,12 @@ use std::io::Read;
 /// No number has more bytes.
 const LONGEST_CODE: usize = 9;
 
-/// Reads a number: seven bits a byte, the low ones first, and none after that of the last weight.
+/// Reads a number and returns it: seven bits a byte, the low ones first, and none after that of the
+/// last weight.
+///
+/// # Errors
+///
+/// The fault of a number that is too large or unfinished, a failed read or out of memory.
 #[inline(always)]
 pub fn read_code<R: Read>(bytes: &mut Bytes<R>, last_weight: u64) -> Result<u64, Stop>
     requires { IsLastWeight last_weight }
@@ -30,8 +35,8 @@ pub fn read_code<R: Read>(bytes: &mut Bytes<R>, last_weight: u64) -> Result<u64,
     }
 }
 
-/// The number that the bytes begin with, and how many of them say it. None where fewer bytes are
-/// there than the longest number has, and where it has too many.
+/// Returns the number that the bytes begin with, and how many of them say it. None where fewer
+/// bytes are there than the longest number has, and where it has too many.
 #[inline(always)]
 fn code_ahead(bytes: &[u8], last_weight: u64) -> Option<(u64, usize)>
     requires { IsLastWeight last_weight }

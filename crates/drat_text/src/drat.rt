@@ -13,7 +13,7 @@ use std::alloc::Global;
 /// The weight of the fifth byte of a binary number, which is its last.
 const LAST_WEIGHT: u64 = 1 << 28;
 
-/// A step. Its literals stand in the reader, as they are written.
+/// A step. Its literals are in the reader, as they are written.
 #[derive(Clone, Copy, Debug, PartialEq, Eq)]
 pub enum DratStep<'a> {
     /// The clause of these literals is added.
@@ -37,7 +37,7 @@ pub(crate) struct Draft {
 }
 
 impl Draft {
-    /// No step is begun.
+    /// Returns a draft in which no step is begun. Allocates no memory.
     pub(crate) fn new(alloc: Global) -> Draft {
         Draft {
             action: Action::Add,
@@ -52,7 +52,7 @@ impl Draft {
         self.lits.clear();
     }
 
-    /// The step that was read.
+    /// Returns the step that was read.
     pub(crate) fn step(&self, action: Action) -> DratStep<'_>
         ensures { view result ≡ step_of action self.now.lits.items }
     {

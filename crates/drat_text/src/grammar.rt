@@ -23,34 +23,34 @@ pub trait Grammar: Drop {
 
     ghost step_of: { Self → Self.Found → Step };
 
-    /// Whether a comment of a text begins with the byte.
+    /// Returns whether a comment of a text begins with the byte.
     fn begins_comment(byte: u8) -> bool
         ensures { result ≡ rules.begins_comment byte };
 
-    /// Begins a step by its letter, in place of the one before. The answer is whether the byte is
-    /// the letter of a step.
+    /// Begins a step by its letter, in place of the one before. Returns whether the byte is the
+    /// letter of a step.
     fn begin(&mut self, format: Format, letter: u8) -> bool
         ensures { Begins (slot_of self.new) (rules.letter format letter) result };
 
-    /// Begins a step of text that has no letter. The answer is whether there are such.
+    /// Begins a step of text that has no letter. Returns whether there are such.
     fn begin_bare(&mut self) -> bool
         ensures { Begins (slot_of self.new) rules.bare result };
 
-    /// Whether the next binary number has a sign, as its last bit.
+    /// Returns whether the next binary number has a sign, as its last bit.
     fn is_signed(&self) -> bool
         ensures { result ≡ rules.is_signed (slot_of self.now) };
 
-    /// Takes the next number. The answer is the step where it has ended by it.
+    /// Takes the next number. Returns the step, if the number ends it.
     fn take(&mut self, negative: bool, value: u64) -> Result<Option<Self::Found>, Stop>
         ensures { TakesNumber (step_of self.new) (slot_of self.new)
             (rules.said (slot_of self.old) negative value) result };
 
-    /// The weight of the last byte that a binary number can have.
+    /// Returns the weight of the last byte that a binary number can have.
     fn last_weight() -> u64
         ensures is { result ≡ rules.last_weight }
         ensures weight { IsLastWeight result };
 
-    /// The format by the first byte, unless the bytes after it are asked too.
+    /// Returns the format by the first byte, unless the bytes after it are asked too.
     fn first_tells(byte: u8) -> Option<Format>
         ensures { result ≡ rules.first_tells byte };
 }

@@ -1,5 +1,8 @@
 //! Proofs of steps, text or binary, as solvers write them, read by the rules of a grammar; and that
 //! of DRAT, where a step adds a clause or deletes one.
+//!
+//! Source: Wetzler, Heule, Hunt, DRAT-trim, SAT 2014; for witnesses Heule, Kiesl, Biere, Short
+//! Proofs Without New Variables, CADE 2017.
 #![tactic(auto)]
 
 mod binary;

@@ -10,7 +10,7 @@ use sat_formula::{Lit, Var};
 /// The largest number of a variable.
 pub const MAX_VARIABLE: u64 = Var::MAX_COUNT as u64;
 
-/// Whether the byte stands between words: a blank or an LF.
+/// Returns whether the byte is between words: a blank or an LF.
 #[inline(always)]
 pub fn is_space(byte: u8) -> bool
     ensures { result ≡ is_space byte }
@@ -18,7 +18,7 @@ pub fn is_space(byte: u8) -> bool
     byte == b' ' || byte == b'\n' || byte == b'\r' || byte == b'\t'
 }
 
-/// Whether the byte is `0` to `9`.
+/// Returns whether the byte is `0` to `9`.
 #[inline(always)]
 pub fn is_digit(byte: u8) -> bool
     ensures { result ≡ is_digit byte }
@@ -26,7 +26,7 @@ pub fn is_digit(byte: u8) -> bool
     b'0' <= byte && byte <= b'9'
 }
 
-/// Whether the byte begins a comment, where it stands between steps.
+/// Returns whether the byte begins a comment, if it is between steps.
 #[inline(always)]
 pub fn begins_comment(byte: u8) -> bool
     ensures { result ≡ begins_comment byte }
@@ -34,14 +34,18 @@ pub fn begins_comment(byte: u8) -> bool
     byte == b'c' || byte == b'%'
 }
 
-/// Whether a text can have the byte.
+/// Returns whether a text can have the byte.
 pub fn is_text_byte(byte: u8) -> bool
     ensures { result ≡ is_text_byte byte }
 {
     is_space(byte) || b' ' <= byte && byte <= b'~'
 }
 
-/// What digits of this value say, after a `-` or not: a literal, or none at a step's 0.
+/// Returns the literal of digits of this value, after a `-` or not, or `None` at a step's 0.
+///
+/// # Errors
+///
+/// `NumberTooLarge` above `Var::MAX_COUNT`, `Malformed` for a negative 0.
 #[inline(always)]
 pub fn lit_said(negative: bool, value: u64) -> Result<Option<Lit>, DratKind>
     ensures { result ≡ lit_said negative value }

@@ -14,7 +14,7 @@ use std::io::Read;
 /// A reader of the steps of a proof, one after the other, into a draft.
 ///
 /// A step of text is numbers between blanks (space, tab, CR and LF), up to one that ends it, after
-/// a letter or not. Between steps stand comments, to the end of their lines. A binary step is a
+/// a letter or not. Comments are between steps, to the end of their lines. A binary step is a
 /// letter, and then numbers by seven bits a byte with the low ones first.
 ///
 /// It keeps the bytes read ahead and one step. Of a proof it takes at most `u64::MAX` bytes; where
@@ -33,7 +33,7 @@ impl<G: Grammar, R: Read> StepReader<G, R> {
     ghost use Rattle.sat_formula.specs.Source.{IsStopped};
     ghost use Rattle.drat_text.specs.NextStep.{bytes_left, draft_of, room_left, has_ended, steps_given, known_format, Answers, ReadsOn, SeesFormat, Explains};
 
-    /// A reader of the steps that bytes say of which none was taken yet.
+    /// Returns a reader of the steps in these bytes, of which none was taken yet.
     pub fn over(draft: G, bytes: Bytes<R>) -> StepReader<G, R>
         ensures bytes { bytes_left R.remaining result ≡ unread_bytes R.remaining bytes }
         ensures room { room_left result ≡ room_in bytes }
@@ -50,15 +50,19 @@ impl<G: Grammar, R: Read> StepReader<G, R> {
         }
     }
 
-    /// What was read of the last step.
+    /// Returns what was read of the last step.
     pub fn draft(&self) -> &G
         ensures { result.now ≡ draft_of self.now }
     {
         &self.draft
     }
 
-    /// Reads a step into the draft, or ends. After the end or a fault every call answers that there
-    /// is no step, and nothing more is read.
+    /// Reads a step into the draft and returns what was found, or `None` at the end of the proof.
+    ///
+    /// # Errors
+    ///
+    /// The first fault of the proof, a failed read or out of memory. After the end or an error
+    /// every call returns `Ok(None)` and reads nothing more.
     pub fn read_step(&mut self) -> Result<Option<G::Found>, DratFault>
         ensures reads { has_ended self.old ≡ false
             → Answers G.rules R.remaining (G.step_of (draft_of self.new)) self.old self.new result }
@@ -93,7 +97,7 @@ impl<G: Grammar, R: Read> StepReader<G, R> {
         }
     }
 
-    /// The format, by the first bytes where it was not told before.
+    /// Returns the format, detected from the first bytes if it is not known.
     fn format(&mut self) -> Result<Format, Stop>
         ensures { SeesFormat G.rules R.remaining self.old self.new result }
     {
@@ -105,7 +109,7 @@ impl<G: Grammar, R: Read> StepReader<G, R> {
         Ok(format)
     }
 
-    /// What a stop answers.
+    /// Returns the result for a stop.
     fn stopped(&self, stop: Stop) -> Result<Option<G::Found>, DratFault>
         requires { stop ≡ Stop.Read → IsStopped (source_of self.now.bytes) }
         ensures { Explains (source_of self.now.bytes) (steps_given self.now) stop result }
@@ -122,7 +126,7 @@ impl<G: Grammar, R: Read> StepReader<G, R> {
     }
 }
 
-/// Tells the format by the next bytes, and takes none of them.
+/// Detects the format from the next bytes, and takes none of them.
 fn look<G: Grammar, R: Read>(bytes: &mut Bytes<R>) -> Result<Format, Stop>
     ensures format { Looks (format_of G.rules) (unread_bytes R.remaining bytes.old)
         (unread_bytes R.remaining bytes.new) (source_of bytes.new) result }

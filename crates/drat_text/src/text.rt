@@ -16,20 +16,20 @@ use crate::number::{is_digit, is_space};
 use crate::step::StepEnd;
 use std::io::Read;
 
-/// Values above it are of no use, and only that is kept of them.
+/// Values above it are unspecified, and only that is kept of them.
 const MAX_VALUE: u64 = 1 << 60;
 
 /// A number of a step.
 #[derive(Clone, Copy)]
 pub(crate) struct TextNumber {
-    /// A `-` stands before it.
+    /// A `-` precedes it.
     pub(crate) negative: bool,
     pub(crate) value: u64,
     /// The input ended with it.
     pub(crate) last: bool,
 }
 
-/// Reads a step into a draft.
+/// Reads a step into a draft, and returns how it ended.
 pub(crate) fn text_step<G: Grammar, R: Read>(
     bytes: &mut Bytes<R>,
     draft: &mut G,
@@ -52,7 +52,7 @@ pub(crate) fn text_step<G: Grammar, R: Read>(
     numbers(bytes, draft, first_number)
 }
 
-/// The first byte of a step. Blanks and comments before it are passed over.
+/// Returns the first byte of a step. Blanks and comments before it are passed over.
 fn first_byte<G: Grammar, R: Read>(bytes: &mut Bytes<R>) -> Result<u8, Stop>
     ensures read { ReadsFirst G.rules
         (unread_bytes R.remaining bytes.old) (unread_bytes R.remaining bytes.new)
@@ -85,7 +85,7 @@ fn comment<G: Grammar, R: Read>(bytes: &mut Bytes<R>) -> Result<(), Stop>
     }
 }
 
-/// Hands numbers to a draft to the end of the step, of which this one was read.
+/// Passes numbers to a draft to the end of the step, of which this one was read.
 fn numbers<G: Grammar, R: Read>(
     bytes: &mut Bytes<R>,
     draft: &mut G,
@@ -186,7 +186,7 @@ fn digits<G: Grammar, R: Read>(
     }
 }
 
-/// A digit more. Of a value that is too large for an id only that is kept.
+/// Returns a digit more. Of a value that is too large for an id only that is kept.
 #[inline(always)]
 fn with_digit(value: u64, digit: u8) -> u64
     requires { is_digit digit ≡ true }

@@ -35,7 +35,7 @@ next_id n = min (n + 1) (2 ^ 64 - 1)
 abbrev pub letter_seen : ℕ → ℕ → Seen
 letter_seen next b =
     if b == letter_a then Later (Id true next true)
-    else (if b == letter_d then Later (Deleted true) else Told true)
+    else (if b == letter_d then Later (Deleted true true) else Told true)
 
 -- a byte of a line's id, which is compared with what is left of the next one
 abbrev pub id_seen : ℕ → Bool → ℕ → Seen
@@ -48,18 +48,37 @@ id_seen left same b =
 abbrev pub is_odd : ℕ → Bool
 is_odd b = b % 2 == 1
 
+-- all bits of a number are 0, up to a byte of it and with it
+abbrev pub is_zero_at : Bool → ℕ → Bool
+is_zero_at zero b = zero && (b % 128 == 0)
+
+-- a byte of a literal, where all bits up to it are 0 or not; a literal 0 ends the list, however many bytes it has
+abbrev pub lit_seen : Bool → ℕ → Seen
+lit_seen zero b =
+    if nat_lt b 128 then (if zero then Later (Hint true) else Later (Lit true))
+    else Later (Lit zero)
+
+-- the same of a hint
+abbrev pub hint_seen : Bool → ℕ → Seen
+hint_seen zero b =
+    if nat_lt b 128 then (if zero then Later Letter else Later (Hint true))
+    else Later (Hint zero)
+
+-- and of an id that is deleted
+abbrev pub deleted_seen : Bool → ℕ → Seen
+deleted_seen zero b =
+    if nat_lt b 128 then (if zero then Later Letter else Later (Deleted true true))
+    else Later (Deleted false zero)
+
 -- one byte
 abbrev pub seen_at : ℕ → Sight → ℕ → Seen
 seen_at next Letter b = letter_seen next b
 seen_at next (Id begins left same) b =
     if begins && is_odd b then Told false else id_seen left same b
-seen_at next (Lit begins) b =
-    if begins && (b == 0) then Later (Hint true) else Later (Lit (nat_lt b 128))
-seen_at next (Hint begins) b =
-    if begins && (b == 0) then Later Letter else Later (Hint (nat_lt b 128))
-seen_at next (Deleted begins) b =
-    if begins && is_odd b then Told false
-    else (if begins && (b == 0) then Later Letter else Later (Deleted (nat_lt b 128)))
+seen_at next (Lit zero) b = lit_seen (is_zero_at zero b) b
+seen_at next (Hint zero) b = hint_seen (is_zero_at zero b) b
+seen_at next (Deleted begins zero) b =
+    if begins && is_odd b then Told false else deleted_seen (is_zero_at zero b) b
 
 -- whether the ids are doubled, by these bytes, where this id comes next after those of the formula
 unfoldable pub are_doubled : ℕ → Sight → List ℕ → Bool

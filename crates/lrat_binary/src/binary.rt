@@ -17,7 +17,7 @@ use std::io::Read;
 /// The weight of the ninth byte of a number, which is its last.
 const LAST_WEIGHT: u64 = 1 << 56;
 
-/// Reads a line into a draft.
+/// Reads a line into the draft. Returns its head.
 pub(crate) fn read_line<R: Read>(
     bytes: &mut Bytes<R>,
     ids: Ids,
@@ -34,7 +34,7 @@ pub(crate) fn read_line<R: Read>(
     read_numbers(bytes, ids, draft)
 }
 
-/// Reads numbers to the end of the line.
+/// Reads numbers to the end of the line. Returns its head.
 fn read_numbers<R: Read>(bytes: &mut Bytes<R>, ids: Ids, draft: &mut Draft) -> Result<Head, Stop>
     ensures read { (before : ℕ) → ReadsLine ids before draft.new
         (unread_bytes R.remaining bytes.old) (unread_bytes R.remaining bytes.new)

@@ -14,7 +14,7 @@ use lrat_text::LratLine;
 use lrat_text::row::{Head, Row};
 use std::alloc::Global;
 
-/// What is due next in a line.
+/// The kind of the next number of a line.
 #[derive(Clone, Copy)]
 pub(crate) enum Due {
     /// The id of its clause.
@@ -27,7 +27,7 @@ pub(crate) enum Due {
     Deleted,
 }
 
-/// What was read of a line.
+/// A partly read line.
 #[derive(Drop)]
 pub(crate) struct Draft {
     due: Due,
@@ -35,7 +35,7 @@ pub(crate) struct Draft {
 }
 
 impl Draft {
-    /// No line is begun.
+    /// Returns an empty draft. Allocates no memory.
     pub(crate) fn new(alloc: Global) -> Draft {
         Draft {
             due: Due::Id,
@@ -58,7 +58,7 @@ impl Draft {
         Ok(())
     }
 
-    /// Takes the next number. The answer is the line where it has ended by it.
+    /// Adds the next number. Returns the line's head if the number ends it.
     #[inline(always)]
     pub(crate) fn take(&mut self, ids: Ids, number: u64) -> Result<Option<Head>, Stop>
         ensures { TakesNumber self.new (said ids (slot_of self.old) number) result }
@@ -71,7 +71,7 @@ impl Draft {
         }
     }
 
-    /// Takes the id of a clause.
+    /// Adds the id of a clause.
     fn take_id(&mut self, ids: Ids, number: u64) -> Result<Option<Head>, Stop>
         requires { self.old.due ≡ dues.Id }
         ensures { TakesNumber self.new (said ids (slot_of self.old) number) result }
@@ -87,7 +87,7 @@ impl Draft {
         }
     }
 
-    /// Takes a literal of a clause, or the 0 after the last.
+    /// Adds a literal of a clause, or the 0 after the last.
     #[inline(always)]
     fn take_lit(&mut self, id: u64, ids: Ids, number: u64) -> Result<Option<Head>, Stop>
         requires { self.old.due ≡ dues.Lit id }
@@ -107,7 +107,7 @@ impl Draft {
         }
     }
 
-    /// Takes a hint, or the 0 after the last.
+    /// Adds a hint, or the 0 after the last.
     #[inline(always)]
     fn take_hint(&mut self, id: u64, number: u64) -> Result<Option<Head>, Stop>
         requires { self.old.due ≡ dues.Hint id }
@@ -123,7 +123,7 @@ impl Draft {
         }
     }
 
-    /// Takes an id that is deleted, or the 0 after the last.
+    /// Adds an id that is deleted, or the 0 after the last.
     fn take_deleted(&mut self, ids: Ids, number: u64) -> Result<Option<Head>, Stop>
         requires { self.old.due ≡ dues.Deleted }
         ensures { TakesNumber self.new (said ids (slot_of self.old) number) result }
@@ -138,7 +138,7 @@ impl Draft {
         }
     }
 
-    /// The line that has ended.
+    /// Returns the line with this head, which was read whole.
     pub(crate) fn line(&self, head: Head) -> LratLine<'_>
         ensures { view result ≡ line_of self.now head }
     {

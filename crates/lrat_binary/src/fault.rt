@@ -5,7 +5,7 @@ ghost use Rattle.lrat_binary.specs.Kinds.{line_kind};
 use drat_text::DratKind;
 use lrat_text::LineKind;
 
-/// What is wrong with a line, by what is wrong with its bytes.
+/// Returns the fault of a line, by that of its bytes.
 pub(crate) fn line_kind(kind: DratKind) -> LineKind
     ensures { result ≡ line_kind kind }
 {

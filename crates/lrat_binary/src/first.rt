@@ -1,4 +1,4 @@
-//! The first bytes of a proof, which are looked at before it is read.
+//! The first bytes of a proof, from which its form is detected.
 ghost use Rattle.std.specs.Prelude.{◌≡◌, ◌≤◌, vec_len};
 ghost use Rattle.std.specs.Io.{ReadsAtMost};
 ghost use Rattle.std.specs.Io.KnownBytes.{ReadConsumes, prepend_known};
@@ -6,11 +6,11 @@ ghost use Rattle.std.specs.Io.KnownBytes.{ReadConsumes, prepend_known};
 use std::io;
 use std::io::Read;
 
-/// A reader of which the first bytes stand here.
+/// A reader whose first bytes were read ahead.
 #[derive(Drop)]
 pub struct FirstBytes<R> {
     first: Vec<u8>,
-    /// This many of them were given.
+    /// How many of them were returned.
     given: usize,
     inner: R,
     ghost within: { given ≤ vec_len first },
@@ -19,7 +19,7 @@ pub struct FirstBytes<R> {
 impl<R: Read> FirstBytes<R> {
     ghost use Rattle.lrat_binary.specs.First.{bytes_in};
 
-    /// These bytes, and then those of a reader.
+    /// Returns a reader of these bytes, and then of those of `inner`.
     pub(crate) fn new(first: Vec<u8>, inner: R) -> FirstBytes<R>
         ensures { bytes_in R.remaining result ≡ prepend_known first.items (R.remaining inner) }
     {

@@ -1,16 +1,16 @@
-//! How the lines of a proof stand.
+//! The forms of a proof's lines.
 
-/// How the ids of lines and of deletions stand in binary LRAT. Hints stand as literals do in both
-/// ways: twice the id, and 1 more where a group begins.
+/// The encoding of the ids of lines and of deletions in binary LRAT. Hints are encoded as literals
+/// are in both: twice the id, and 1 more for a RAT candidate.
 #[derive(Clone, Copy, Debug, PartialEq, Eq)]
 pub enum Ids {
-    /// An id stands as it is, as CaDiCaL writes it.
+    /// An id is encoded as itself, as CaDiCaL writes it.
     Plain,
-    /// An id stands as twice itself, as drat-trim writes it.
+    /// An id is encoded as twice itself, as drat-trim writes it.
     Doubled,
 }
 
-/// How the lines of a proof stand.
+/// The forms of a proof's lines.
 #[derive(Clone, Copy, Debug, PartialEq, Eq)]
 pub enum LratForm {
     Text,

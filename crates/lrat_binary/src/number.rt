@@ -1,4 +1,4 @@
-//! What the numbers of binary lines say.
+//! The literals, hints and ids of the numbers of binary lines.
 ghost use Rattle.std.specs.Prelude.{◌≡◌};
 ghost use Rattle.lrat_binary.specs.Numbers.{lit_said, hint_said, id_said};
 
@@ -7,7 +7,11 @@ use drat_text::DratKind;
 use lrat_text::Hint;
 use sat_formula::Lit;
 
-/// A literal, or none at the 0 that ends a clause.
+/// Returns the literal of a number, or none for the 0 that ends a clause.
+///
+/// # Errors
+///
+/// `Malformed` for 1, `NumberTooLarge` if there is no such variable.
 #[inline(always)]
 pub(crate) fn lit_said(number: u64) -> Result<Option<Lit>, DratKind>
     ensures { result ≡ lit_said number }
@@ -22,7 +26,11 @@ pub(crate) fn lit_said(number: u64) -> Result<Option<Lit>, DratKind>
     }
 }
 
-/// A hint, or none at the 0 that ends them.
+/// Returns the hint of a number, or none for the 0 that ends them.
+///
+/// # Errors
+///
+/// `Malformed` for 1.
 #[inline(always)]
 pub(crate) fn hint_said(number: u64) -> Result<Option<Hint>, DratKind>
     ensures { result ≡ hint_said number }
@@ -35,7 +43,11 @@ pub(crate) fn hint_said(number: u64) -> Result<Option<Hint>, DratKind>
     }
 }
 
-/// An id of a line or of a deletion, or none at the 0 that ends a deletion.
+/// Returns the id of a line or of a deletion, or none for the 0 that ends a deletion.
+///
+/// # Errors
+///
+/// `Malformed` for an odd number, if ids are doubled.
 #[inline(always)]
 pub(crate) fn id_said(ids: Ids, number: u64) -> Result<Option<u64>, DratKind>
     ensures { result ≡ id_said ids number }

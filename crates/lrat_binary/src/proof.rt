@@ -26,7 +26,7 @@ impl<R: Read> LratReader<R> {
     ghost use Rattle.lrat_binary.specs.Proofs.{Gives, IsCounted, bytes_left, form_now, line_number, has_ended};
     ghost use Rattle.lrat_binary.specs.contracts.proof.LratReader.{the_row};
 
-    /// A reader at the start of a proof of this form. It takes no memory and reads nothing yet.
+    /// Returns a reader at the start of a proof of this form. Allocates and reads nothing.
     pub fn new(alloc: Global, input: R, form: LratForm) -> LratReader<R>
         ensures bytes { bytes_left R.remaining result ≡ R.remaining input }
         ensures form { form_now result ≡ form }
@@ -40,7 +40,7 @@ impl<R: Read> LratReader<R> {
         }
     }
 
-    /// The form in which the proof is read.
+    /// Returns the form in which the proof is read.
     pub fn form(&self) -> LratForm
         ensures { result ≡ form_now self.now }
     {
@@ -50,8 +50,8 @@ impl<R: Read> LratReader<R> {
         }
     }
 
-    /// The number of the line that was given last, or in which the proof ended or had its fault;
-    /// lines count from 1. It is 0 before the first, and stays at `u64::MAX`.
+    /// Returns the number of the line that was returned last, or in which the proof ended or had
+    /// its fault; lines count from 1. It is 0 before the first, and saturates at `u64::MAX`.
     pub fn line(&self) -> u64
         ensures { result ≡ line_number self.now }
     {
@@ -61,11 +61,14 @@ impl<R: Read> LratReader<R> {
         }
     }
 
-    /// The next line, or none at the end of the proof.
+    /// Returns the next line, or `None` at the end of the proof. The line borrows lists of the
+    /// reader.
     ///
-    /// The line's lists stand in the reader and serve until the next call. A read that fails is not
-    /// tried again, and what was not read to the end of its line is not judged. After the end or a
-    /// fault every call answers that there is no line, and nothing more is read.
+    /// # Errors
+    ///
+    /// The first fault of the proof, a failed read, which is not retried, or `OutOfMemory`. A line
+    /// that was cut by a failed read is not judged. After the end or an error every call returns
+    /// `None`, and nothing more is read.
     #[inline(always)]
     pub fn next_line(&mut self) -> Result<Option<LratLine<'_>>, LratTextFault>
         ensures after_end { has_ended self.old ≡ true → result ≡ Ok None }
@@ -79,12 +82,17 @@ impl<R: Read> LratReader<R> {
     }
 }
 
-/// A reader at the start of a proof after a formula of this many clauses, of the form that the
-/// proof's first bytes tell; of binary lines the form of the ids is told where it is not given.
+/// Returns a reader at the start of a proof after a formula of this many clauses, of the form that
+/// is detected from the proof's first bytes; the encoding of binary ids is detected if it is not
+/// given.
 ///
-/// A proof is binary where it begins with an `a`, or with a `d` and has a byte among its first
-/// 4,096 that no text has. Its ids are doubled where all among these bytes are even and no line has
-/// the next id after those of the formula. Of text only the first read is looked at.
+/// A proof is binary if it begins with an `a`, or with a `d` and has a byte among its first 4,096
+/// that no text has. Its ids are doubled if all among these bytes are even and no line has the next
+/// id after those of the formula. Of a text only the first read is examined.
+///
+/// # Errors
+///
+/// `Read` if a read failed, or `OutOfMemory`.
 pub fn open_proof<R: Read + Drop>(
     alloc: Global,
     proof: R,

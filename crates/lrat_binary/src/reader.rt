@@ -14,18 +14,19 @@ use lrat_text::{LratLine, LratTextFault};
 use std::alloc::Global;
 use std::io::Read;
 
-/// How many bytes of a proof are taken at most, so that its lines can be counted.
+/// The most bytes of a proof that are read, so that its lines can be counted.
 const MOST_BYTES: u64 = u64::MAX - 1;
 
 /// A reader of the lines of a binary LRAT proof, one after the other.
 ///
-/// A line is `a`, an id, literals up to 0 and hints up to 0; or `d` and ids up to 0. Numbers stand
-/// by seven bits a byte with the low ones first, at most nine bytes each. A literal stands as twice
-/// its variable, and 1 more where it is negative; a hint so as twice its id; other ids as `Ids`
-/// says. Ids go from 1 up, and variables to `Var::MAX_COUNT`. Lines count from 1.
+/// A line is `a`, an id, literals up to 0 and hints up to 0; or `d` and ids up to 0. Numbers are
+/// encoded with seven bits a byte, the low ones first, at most nine bytes each. A literal is
+/// encoded as twice its variable, and 1 more if it is negative; a hint likewise as twice its id;
+/// other ids as `Ids` says. Ids go from 1 up, and variables to `Var::MAX_COUNT`. Lines count from
+/// 1.
 ///
-/// It keeps the bytes read ahead and one line. Of a proof it takes at most `u64::MAX - 1` bytes, so
-/// that its lines can be counted; where it would take more, it is as if a read had failed.
+/// It keeps the bytes read ahead and one line. It reads at most `u64::MAX - 1` bytes of a proof, so
+/// that its lines can be counted; a longer proof ends as by a failed read.
 #[derive(Drop)]
 pub struct BinaryReader<R> {
     bytes: Bytes<R>,
@@ -42,7 +43,7 @@ impl<R: Read> BinaryReader<R> {
     ghost use Rattle.lrat_binary.specs.NextLine.{bytes_left, room_left, has_ended, ids_of, line_number, Gives, Answers, Numbers, Explains};
     ghost use Rattle.lrat_binary.specs.contracts.reader.BinaryReader.{the_row};
 
-    /// A reader at the start of a proof. It takes no memory and reads nothing yet.
+    /// Returns a reader at the start of a proof. Allocates and reads nothing.
     pub fn new(alloc: Global, input: R, ids: Ids) -> BinaryReader<R>
         ensures bytes { bytes_left R.remaining result ≡ R.remaining input }
         ensures room { room_left result ≡ 2 ^ 64 - 2 }
@@ -59,26 +60,29 @@ impl<R: Read> BinaryReader<R> {
         }
     }
 
-    /// How ids stand in the lines.
+    /// Returns the encoding of ids in the lines.
     pub fn ids(&self) -> Ids
         ensures { result ≡ ids_of self.now }
     {
         self.ids
     }
 
-    /// The number of the line that was given last, or that had the proof's fault; lines count from
-    /// 1. It is 0 before the first, and stays at `u64::MAX`.
+    /// Returns the number of the line that was returned last, or that had the proof's fault; lines
+    /// count from 1. It is 0 before the first, and saturates at `u64::MAX`.
     pub fn line(&self) -> u64
         ensures { result ≡ line_number self.now }
     {
         self.number
     }
 
-    /// The next line, or none at the end of the proof.
+    /// Returns the next line, or `None` at the end of the proof. The line borrows lists of the
+    /// reader.
     ///
-    /// The line's lists stand in the reader and serve until the next call. A read that fails is not
-    /// tried again, and what was not read to the end of its line is not judged. After the end or a
-    /// fault every call answers that there is no line, and nothing more is read.
+    /// # Errors
+    ///
+    /// The first fault of the proof, a failed read, which is not retried, or `OutOfMemory`. A line
+    /// that was cut by a failed read is not judged. After the end or an error every call returns
+    /// `None`, and nothing more is read.
     pub fn next_line(&mut self) -> Result<Option<LratLine<'_>>, LratTextFault>
         ensures after_end { has_ended self.old ≡ true → result ≡ Ok None }
         ensures* after_borrow { sem 𝓛 (Rests (the_row R.row) self.entry
@@ -90,7 +94,7 @@ impl<R: Read> BinaryReader<R> {
         }
     }
 
-    /// Reads a line into the draft, or ends.
+    /// Reads a line into the draft, or ends. Returns its head, if there is one.
     fn begin(&mut self) -> Result<Option<Head>, LratTextFault>
         ensures reads { has_ended self.old ≡ false
             → Answers R.remaining (line_of self.new.draft) self.old self.new result }
@@ -110,7 +114,7 @@ impl<R: Read> BinaryReader<R> {
         }
     }
 
-    /// Ends, and answers what a stop says.
+    /// Ends the reader, and returns the fault of a stop, or `None` for the end.
     fn stopped(&mut self, stop: Stop) -> Result<Option<Head>, LratTextFault>
         requires { stop ≡ Stop.Read → IsStopped (source_of self.old.bytes) }
         ensures explains { Explains (source_of self.old.bytes) (line_number self.old) stop result }

@@ -1,4 +1,4 @@
-//! The first bytes of a proof are read.
+//! Reads the first bytes of a proof.
 ghost use Rattle.std.specs.Prelude.{◌≡◌, IfErr, OnOk};
 ghost use Rattle.std.specs.Io.KnownBytes.{Keeps, prepend_known};
 ghost use Rattle.lrat_binary.specs.First.{IsSeen, SeesFirst};
@@ -8,11 +8,15 @@ use crate::telling::{LOOKED_AT, begins_as_binary};
 use lrat_text::LratTextFault;
 use std::io::Read;
 
-/// This many bytes are asked for at once.
+/// How many bytes one read asks for.
 const CHUNK: usize = 4096;
 
-/// Reads until a byte is seen, and where a binary line may begin with it, until all are that are
-/// looked at; or until the input ends.
+/// Reads until there is a byte, and if a binary line may begin with it, until there are all bytes
+/// that are examined; or until the input ends.
+///
+/// # Errors
+///
+/// `Read` if a read failed, or `OutOfMemory`.
 pub(crate) fn see_first<R: Read>(input: &mut R, seen: &mut Vec<u8>) -> Result<(), LratTextFault>
     ensures seen { OnOk result (SeesFirst seen.new.items (R.remaining input.new)) }
     ensures kept { OnOk result (Keeps (prepend_known seen.old.items (R.remaining input.old))
@@ -30,7 +34,7 @@ pub(crate) fn see_first<R: Read>(input: &mut R, seen: &mut Vec<u8>) -> Result<()
     }
 }
 
-/// Reads until this many bytes are seen, or the input ends.
+/// Reads until there are this many bytes, or the input ends.
 fn see<R: Read>(input: &mut R, wanted: usize, seen: &mut Vec<u8>) -> Result<(), LratTextFault>
     ensures seen { OnOk result (IsSeen wanted seen.new.items (R.remaining input.new)) }
     ensures kept { OnOk result (Keeps (prepend_known seen.old.items (R.remaining input.old))

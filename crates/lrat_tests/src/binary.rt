@@ -75,7 +75,7 @@ static DOUBLED: [Row; 5] = [
 ];
 
 /// First bytes, how many clauses the formula has, and the form that they tell.
-static FORMS: [(&[u8], u64, LratForm); 14] = [
+static FORMS: [(&[u8], u64, LratForm); 17] = [
     (b"", 3, LratForm::Text),
     (b"4 0 1 0\n", 3, LratForm::Text),
     (b"c a\n", 3, LratForm::Text),
@@ -94,6 +94,18 @@ static FORMS: [(&[u8], u64, LratForm); 14] = [
         LratForm::Binary(Doubled),
     ),
     (b"a", 3, LratForm::Binary(Doubled)),
+    // lists that end with a 0 of two bytes, behind which bytes of a line would tell something else
+    (
+        b"a\x08\x02\x80\x00\x02\x00a\x0A\x00d\x03\x00",
+        3,
+        LratForm::Binary(Doubled),
+    ),
+    (
+        b"a\x08\x00\x02\x80\x00a\x0A\x00d\x03\x00",
+        3,
+        LratForm::Binary(Doubled),
+    ),
+    (b"d\x02\x80\x00a\x0C\x00\x00", 3, LratForm::Binary(Doubled)),
 ];
 
 /// What is shown of these bytes, after a formula of three clauses.

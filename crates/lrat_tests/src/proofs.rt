@@ -38,9 +38,9 @@ const SECOND_NOT_UNIT: &str = "line 2: clause of a hint is not unit";
 
 const NO_CONFLICT: &str = "line 1: hints end without a conflict";
 
-const GROUP_FAILS: &str = "line 1: hints of a group end without a conflict";
+const GROUP_FAILS: &str = "line 1: hints of a candidate end without a conflict";
 
-const GROUP_MISSING: &str = "line 1: no group for a clause with the negation of the first literal";
+const GROUP_MISSING: &str = "line 1: no hints for a clause with the negation of the pivot";
 
 /// How answers of refused lines begin.
 static LINES: [(usize, &str); 3] = [(1, "line 1:"), (2, "line 2:"), (3, "line 3:")];

@@ -72,9 +72,9 @@ static CAUSES: [(LratCause, &str); 6] = [
     (NoConflict, "hints end without a conflict"),
     (
         GroupMissing,
-        "no group for a clause with the negation of the first literal",
+        "no hints for a clause with the negation of the pivot",
     ),
-    (GroupFails, "hints of a group end without a conflict"),
+    (GroupFails, "hints of a candidate end without a conflict"),
 ];
 
 static FAULTS: [(LineFault, &str); 2] = [

@@ -31,7 +31,7 @@ pub static GROUPS: [Row; 2] = [
             // a group shows nothing for a clause that was stored twice
             (
                 "4 -1 2 0 1 0\n5 1 0 -1 2 3 0\n",
-                "line 2: no group for a clause with the negation of the first literal",
+                "line 2: no hints for a clause with the negation of the pivot",
             ),
         ],
     ),

@@ -19,6 +19,6 @@ returns-in-Some-clause-shown g c =
 pub returns-in-Some-clause-core : goal.returns-in-Some-clause-core
 returns-in-Some-clause-core g c = λ old new. rw c.in-Some.is (c.show_core.ensures.core old new)
 
-pub returns-in-None-clause-core : goal.returns-in-None-clause-core
-returns-in-None-clause-core g c = λ old new.
+pub returns-clause-core : goal.returns-clause-core
+returns-clause-core g c = λ old new.
     rw c.in-None.is (no_core c.args.formula.now c.args.wanted.now old new c.show_piece.result c.show_piece.ensures.early c.show_piece.ensures.shown)

@@ -1,0 +1,65 @@
+#!/usr/bin/env bash
+# Counts the instructions that `drat_check` and `drat_cut` take for a proof and for one of the same kind that is twice as long: at most
+# three times as many. Time that grows with the square of the length gives four times as many. The kinds are of benches/drat_hostile.py.
+#
+#   tests/drat_growth.sh
+#
+# The programs must be built: `rt ci` does it, or `rt run` in their folders. Without valgrind nothing is tried.
+set -euo pipefail
+
+top=$(cd "$(dirname "$0")/.." && pwd)
+work=$(mktemp -d)
+trap 'rm -rf "$work"' EXIT
+for program in drat_check drat_cut; do
+  if [[ ! -x $top/crates/${program}_main/out/${program}_main ]]; then
+    echo "not built: $program"
+    exit 1
+  fi
+done
+if ! command -v valgrind > "$work/where"; then
+  echo 'valgrind is not installed: not tried'
+  exit 0
+fi
+wrong=0
+
+# files KIND COUNT: a formula and a proof
+files() {
+  python3 -B -c 'import sys; sys.path.insert(0, sys.argv[1]); import drat_hostile
+for path, text in zip(sys.argv[4:], getattr(drat_hostile, sys.argv[2])(int(sys.argv[3]))):
+    open(path, "w").write(text)' "$top/benches" "$1" "$2" "$work/cnf" "$work/drat"
+}
+
+# instructions PROGRAM: what it takes for these files
+instructions() {
+  local arguments=()
+  if [[ $1 == drat_cut ]]; then
+    arguments=("$work/piece")
+  fi
+  valgrind --tool=callgrind --callgrind-out-file=/dev/null "$top/crates/$1_main/out/$1_main" "$work/cnf" "$work/drat" "${arguments[@]}" \
+    > "$work/said" 2> "$work/err" || true
+  if [[ $1 == drat_check && $(cat "$work/said") != 's VERIFIED UNSAT' ]]; then
+    cat "$work/said" "$work/err" >&2
+    return 1
+  fi
+  sed -n 's/^==[0-9]*== Collected : \([0-9]*\)$/\1/p' "$work/err"
+}
+
+# grows PROGRAM KIND COUNT OTHER: the second proof is twice as long
+grows() {
+  local one two
+  files "$2" "$3"
+  one=$(instructions "$1")
+  files "$2" "$4"
+  two=$(instructions "$1")
+  if ((two > 3 * one)); then
+    echo "$1, $2: $one instructions for $3, $two for $4"
+    wrong=1
+  fi
+}
+
+grows drat_check one_pivot 10000 20000
+for program in drat_check drat_cut; do
+  grows "$program" false_in_turn 10000 20000
+  grows "$program" one_bucket 30000 42426
+done
+exit "$wrong"
