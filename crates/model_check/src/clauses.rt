@@ -13,16 +13,17 @@ use std::io::Read;
 
 /// What was found of a formula that was read to its end.
 #[derive(Clone, Copy)]
-pub(crate) struct Judged {
-    pub(crate) verdict: Verdict,
+pub struct Judged {
+    pub verdict: Verdict,
     /// What it lacks.
-    pub(crate) cut: Option<CutFormula>,
-    /// What its header lies about.
-    pub(crate) lie: Option<LyingHeader>,
+    pub cut: Option<CutFormula>,
+    /// The mismatch of its header.
+    pub lie: Option<LyingHeader>,
 }
 
-/// Reads a formula whole, a clause at a time, and tells whether each has one of the literals.
-pub(crate) fn judge<F: Read + Drop>(
+/// Reads a whole formula, a clause at a time, and returns whether each has one of the literals. The
+/// verdict is that on the clauses that are there, also if some are missing.
+pub fn judge<F: Read + Drop>(
     alloc: Global,
     cnf: F,
     literals: &Literals,
@@ -47,7 +48,7 @@ pub(crate) fn judge<F: Read + Drop>(
     })
 }
 
-/// The verdict with one clause more, which has this number and ends on this line.
+/// Returns the verdict with one clause more, which has this number and ends on this line.
 fn after_clause(
     verdict: Verdict,
     literals: &Literals,

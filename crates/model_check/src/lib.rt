@@ -1,4 +1,4 @@
-//! Whether the literals that a solver answers satisfy a formula, said in one line.
+//! Whether the literals of a solver's answer satisfy a formula, with a verdict in one line.
 #![tactic(auto)]
 
 mod clauses;
@@ -8,6 +8,7 @@ mod run;
 mod verdict;
 mod whole;
 
+pub use clauses::{Judged, judge};
 pub use fault::RunFault;
 pub use laws::met_clauses_are_satisfied;
 pub use run::run_check;

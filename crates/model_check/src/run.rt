@@ -14,15 +14,19 @@ use std::alloc::Global;
 use std::io::{Read, Write};
 use whole_writes::write_whole;
 
-/// Reads an answer, and then a formula in DIMACS CNF a clause at a time, and writes the verdict's
-/// line.
+/// Reads an answer, and then a formula in DIMACS CNF a clause at a time, writes the verdict's line,
+/// and returns the verdict.
 ///
-/// The formula is read whole, also after a clause that has no literal of the answer. Nothing is
-/// written where one of the two can't be read, where the answer is none that the formula is
-/// satisfiable, or where the formula has fewer clauses than its header says, or neither a header
-/// nor a clause. Where the verdict's line can't be written whole, the verdict stood, and a
-/// beginning of the line is written. `lie` tells what the formula's header lies about; where the
-/// formula was not read whole that is nothing.
+/// The formula is read whole, also after a clause that has no literal of the answer. `lie` gets the
+/// mismatch of the formula's header, if there is one.
+///
+/// # Errors
+///
+/// `Answer` if the answer can't be read or is not that the formula is satisfiable; `Formula` if the
+/// formula can't be read; `Cut` if it has fewer clauses than its header says, or neither a header
+/// nor a clause. Nothing is written then, and `lie` is `None` unless the formula was read whole.
+/// `Write` if the line of a verdict that was reached could not be written whole: a beginning of it
+/// is.
 pub fn run_check<F: Read + Drop, P: Read + Drop, W: Write>(
     alloc: Global,
     cnf: F,

@@ -4,18 +4,18 @@ ghost use Rattle.model_check.specs.Verdicts.{shown_line, shows_sat};
 
 use verdicts::Claims;
 
-/// What the literals of an answer are to a formula.
+/// Whether the literals of an answer satisfy a formula.
 #[derive(Clone, Copy, Debug, PartialEq, Eq)]
 pub enum Verdict {
-    /// One of them stands in each clause.
+    /// One of them is in each clause.
     Verified,
-    /// None of them stands in this clause, the first such one, which ends on this line; both count
-    /// from 1.
+    /// None of them is in this clause, the first such one, which ends on this line; both count from
+    /// 1.
     NotVerified { clause: u64, line: u64 },
 }
 
 impl Verdict {
-    /// The bytes of its line, with the line feed.
+    /// Returns the bytes of its line, with the line feed.
     pub fn line(self) -> &'static [u8]
         ensures { result.now ≡ shown_line self }
     {

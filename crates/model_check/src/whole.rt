@@ -16,7 +16,7 @@ pub enum CutFormula {
     NoClause,
 }
 
-/// What is missing of a formula of this many clauses, after its header or none.
+/// Returns what is missing of a formula of this many clauses, after its header or none.
 pub(crate) fn cut_of(header: Option<Counts>, count: u64) -> Option<CutFormula>
     ensures { result ≡ cut_of header count }
 {

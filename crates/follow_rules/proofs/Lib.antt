@@ -1,0 +1,2 @@
+mod RowsFacts
+pub mod Selectors

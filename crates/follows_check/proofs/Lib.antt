@@ -1,0 +1,5 @@
+mod AnswerLemmas
+mod Answered
+mod Needed
+mod Selecting
+mod Shown

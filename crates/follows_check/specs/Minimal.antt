@@ -1,0 +1,63 @@
+-- Formulas of which each clause is needed.
+--     truth_in values x      the value of a variable, by a list of values
+--     assigned model values      the values after those that a model lists
+--     without i cs      the clauses without the one at this place
+--     IsMinimalText text      no assignment satisfies the clauses of the text, and each of them is needed for that
+--     ShowsMinimal formula verdict      a verdict that says no more than is so
+--     minimal_line verdict, shows_minimal verdict      its line;  whether that is what was asked
+use Rattle.std.specs.Prelude.{◌≡◌, ◌<◌, ℕ, zero, suc, not, Bool, true, false, List, [], ◌∷◌, length, codes, slice_index_or, slice_set}
+use Rattle.sat_rules.specs.Clauses.{all_true, is_negative, var_of}
+use Rattle.sat_formula.specs.Lines.{outcome_of}
+use Rattle.sat_formula.specs.Outcome.{Ended}
+use Rattle.whole_formulas.specs.Lies.{lie_in}
+use Rattle.follow_rules.specs.Minimal.{IsMinimal}
+use Rattle.follows_check.specs.Claims.{lacks_clauses}
+use Rattle.follows_check.specs.declared.minimal.MinimalVerdict.{MinimalVerdict}
+use Rattle.follows_check.specs.declared.minimal.MinimalVerdict.TheVariants.{Minimal, Open, NoModel, Unmet}
+
+-- the value of a variable, which is false where there is none
+abbrev pub truth_in : List Bool → ℕ → Bool
+truth_in values x = slice_index_or values x false
+
+-- each variable that a model lists has the value that it says, and all others have theirs
+abbrev pub assigned : List ℕ → List Bool → List Bool
+assigned [] values = values
+assigned (l ∷ model) values = assigned model (slice_set values (var_of l) (not (is_negative l)))
+
+-- the clauses without the one at this place
+abbrev pub without : ℕ → List (List ℕ) → List (List ℕ)
+without i [] = []
+without zero (c ∷ cs) = cs
+without (suc i) (c ∷ cs) = c ∷ without i cs
+
+-- for the clause at each place there is an assignment that satisfies all others
+abbrev pub EachIsNeeded : List (List ℕ) → Type 0
+EachIsNeeded cs = (i : ℕ) → i < length cs → (a : ℕ → Bool) × (all_true a (without i cs) ≡ true)
+
+-- the text has no fault, its header says no more clauses than there are, no assignment satisfies them, and each is needed for that
+pub record IsMinimalText (text : List ℕ) : Type 0 where
+  pub clauses : List (List ℕ)
+  pub formula : outcome_of text ≡ (clauses, Ended)
+  pub complete : lacks_clauses (lie_in text) ≡ false
+  pub minimal : IsMinimal clauses
+
+-- where it is minimal, the formula is
+abbrev pub ShowsMinimal : List (List ℕ) → MinimalVerdict → Type 0
+ShowsMinimal formula Minimal = IsMinimal formula
+ShowsMinimal formula Open = Unit {0}
+ShowsMinimal formula (NoModel clause) = Unit {0}
+ShowsMinimal formula (Unmet model clause) = Unit {0}
+
+-- the text of a verdict and a line feed, as bytes
+abbrev pub minimal_line : MinimalVerdict → List ℕ
+minimal_line Minimal = codes "s VERIFIED MINIMAL\n"
+minimal_line Open = codes "s NOT VERIFIED\n"
+minimal_line (NoModel clause) = codes "s NOT VERIFIED\n"
+minimal_line (Unmet model clause) = codes "s NOT VERIFIED\n"
+
+-- each clause is needed
+abbrev pub shows_minimal : MinimalVerdict → Bool
+shows_minimal Minimal = true
+shows_minimal Open = false
+shows_minimal (NoModel clause) = false
+shows_minimal (Unmet model clause) = false

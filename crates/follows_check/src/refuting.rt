@@ -1,0 +1,37 @@
+//! Proofs that no assignment satisfies a formula that is in memory.
+ghost use Rattle.std.specs.Prelude.{◌≡◌, true, IfOk};
+ghost use Rattle.cube_rules.specs.Cubes.{IsRefuted};
+
+use drat_check::{LineForm, Outputs, ProofFormat, RunFault, run_proof};
+use log::Log;
+use sat_formula::CnfFormula;
+use std::alloc::Global;
+use std::cell::Cell;
+use std::io;
+use std::io::{Read, Sink};
+use verdicts::Verdict;
+
+/// Returns whether a proof shows that a formula is unsatisfiable. The line of the verdict is
+/// discarded.
+pub(crate) fn refute<R: Log, P: Read + Drop>(
+    rt: &R,
+    alloc: Global,
+    formula: &CnfFormula,
+    proof: P,
+    format: ProofFormat,
+) -> Result<bool, RunFault>
+    ensures { IfOk result (λ refuted. refuted ≡ true → IsRefuted formula.now) }
+{
+    let mut outputs: Outputs<Sink, Sink> = Outputs {
+        lrat: None,
+        form: LineForm::Text,
+        trim: None,
+        core: None,
+        counts: Cell::default(),
+    };
+    let nowhere = &mut io::sink();
+    match run_proof(rt, alloc, formula, proof, format, &mut outputs, nowhere) {
+        Ok(verdict) => Ok(verdict == Verdict::Verified),
+        Err(fault) => Err(fault),
+    }
+}

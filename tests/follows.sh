@@ -1,0 +1,21 @@
+#!/usr/bin/env bash
+# What `follows_check` and `minimal_check` say of random formulas and claims, and of random cores. What has to be said is found by
+# going over all assignments, in `tests/follows/judge.py`, and the proofs are made of all assignments too. Then the formula for the
+# solver with cadical, and a core by picomus, where these are installed (Debian: cadical picosat).
+#
+#   tests/follows.sh [COUNT [SEED]]
+#
+# The programs must be built: `rt ci` does it, or `rt run` in their folders.
+set -euo pipefail
+
+top=$(cd "$(dirname "$0")/.." && pwd)
+for program in follows_check minimal_check; do
+  built=$top/crates/${program}_main/out/${program}_main
+  if [[ ! -x $built ]]; then
+    echo "not built: $built"
+    exit 1
+  fi
+done
+follows=$top/crates/follows_check_main/out/follows_check_main
+minimal=$top/crates/minimal_check_main/out/minimal_check_main
+exec python3 -B "$top/tests/follows/judge.py" "$follows" "$minimal" "${1:-150}" "${2:-1}"
