@@ -1,0 +1,61 @@
+-- What a verdict on circuits claims of their texts.
+--     IsNeverText text      the text says a circuit that is never true
+--     IsSameText text text'      both texts say circuits, which are the same
+use Rattle.std.specs.Prelude.{◌≡◌, ℕ, List, [], Option}
+use Rattle.std.specs.Io.KnownBytes.{Appends}
+use Rattle.sat_output.specs.FormulaTexts.{formula_text}
+use Rattle.circuit_rules.specs.Checks.{AreSame, IsNever}
+use Rattle.circuit_text.specs.Aigers.{Says, outcome_of}
+use Rattle.circuit_text.specs.declared.circuit.Circuit as read
+use Rattle.circuit_text.specs.Circuits.{Circuit, circuit_of}
+use Rattle.circuit_text.specs.Reading.{IsRead}
+use Rattle.circuit_clauses.specs.Formulas.{HasNever, HasSame}
+
+-- a circuit of gates and outputs alone
+pub record IsCombinational (c : Circuit) : Type 0 where
+  pub latches : c.latches ≡ []
+  pub bad : c.bad ≡ []
+  pub constraints : c.constraints ≡ []
+
+-- the text says such a circuit, no output of which is true, whatever the input
+pub record IsNeverText (text : List ℕ) : Type 0 where
+  pub circuit : Circuit
+  pub says : outcome_of text ≡ Says circuit
+  pub shape : IsCombinational circuit
+  pub never : IsNever circuit.gates circuit.outputs
+
+-- the texts say two such circuits with as many inputs, whose outputs are the same, whatever the input
+pub record IsSameText (text text' : List ℕ) : Type 0 where
+  pub circuit : Circuit
+  pub circuit' : Circuit
+  pub says : outcome_of text ≡ Says circuit
+  pub says' : outcome_of text' ≡ Says circuit'
+  pub shape : IsCombinational circuit
+  pub shape' : IsCombinational circuit'
+  pub inputs : circuit.inputs ≡ circuit'.inputs
+  pub same : AreSame circuit.gates circuit.outputs circuit'.gates circuit'.outputs
+
+-- ---- formulas
+
+-- the formula of a text that says such a circuit
+pub record IsNeverFormula (known : Option (List ℕ)) (formula : List (List ℕ)) : Type 0 where
+  pub circuit : read.Circuit
+  pub says : IsRead known circuit
+  pub shape : IsCombinational (circuit_of circuit)
+  pub has : HasNever circuit formula
+
+-- the formula of two texts that say such circuits
+pub record IsSameFormula (known known' : Option (List ℕ)) (formula : List (List ℕ)) : Type 0 where
+  pub circuit : read.Circuit
+  pub circuit' : read.Circuit
+  pub says : IsRead known circuit
+  pub says' : IsRead known' circuit'
+  pub shape : IsCombinational (circuit_of circuit)
+  pub shape' : IsCombinational (circuit_of circuit')
+  pub has : HasSame circuit circuit' formula
+
+-- such a formula was written, as DIMACS text
+pub record HasWritten (IsFormula : List (List ℕ) → Type 0) (old new : Option (List ℕ)) : Type 0 where
+  pub formula : List (List ℕ)
+  pub is : IsFormula formula
+  pub appends : Appends old new (formula_text formula)

@@ -1,0 +1,32 @@
+//! Why a run comes to no verdict.
+use circuit_clauses::ClausesFault;
+use circuit_text::AigerFault;
+use drat_check::RunFault;
+use std::io;
+use thiserror::Error;
+
+/// What a run returns in place of a verdict.
+#[derive(Debug, Drop, Error)]
+pub enum CircuitFault {
+    /// The circuit, or the first one of two, was not read.
+    #[error("circuit: {0}")]
+    Unread(AigerFault),
+    /// The second circuit was not read.
+    #[error("second circuit: {0}")]
+    OtherUnread(AigerFault),
+    /// A circuit has latches, bad outputs or constraints.
+    #[error("a circuit with latches, bad outputs or constraints")]
+    Sequential,
+    /// There is no formula of the circuits.
+    #[error("{0}")]
+    NoFormula(ClausesFault),
+    /// There is no verdict on the proof.
+    #[error("{0}")]
+    Proof(RunFault),
+    /// The formula could not be written.
+    #[error("error writing: {0}")]
+    Formula(io::Error),
+    /// The verdict's line could not be written.
+    #[error("error writing: {0}")]
+    Write(io::Error),
+}

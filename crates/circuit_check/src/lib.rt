@@ -1,0 +1,17 @@
+//! Whether a proof shows that a circuit is never true, or that two circuits are the same, said in
+//! one line.
+//!
+//! The formula is made of the circuits' texts, and the proof is checked against it.
+#![tactic(auto)]
+
+mod fault;
+mod formulas;
+mod line;
+mod run;
+mod shape;
+
+pub use circuit_clauses::ClausesFault;
+pub use drat_check::{ProofFormat, Verdict, exit_status};
+pub use fault::CircuitFault;
+pub use line::Claim;
+pub use run::{run_never, run_same, write_never, write_same};

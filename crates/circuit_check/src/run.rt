@@ -1,0 +1,176 @@
+//! Runs: circuits are read, a proof is checked against their formula, and the verdict is written.
+ghost use Rattle.std.specs.Prelude.{◌≡◌, ℕ, List, IfErr, IfOk, OnOk, Err, Ok, Some};
+ghost use Rattle.std.specs.Io.KnownBytes.{Appends};
+ghost use Rattle.circuit_check.specs.Claims.{HasWritten, IsNeverFormula, IsNeverText, IsSameFormula, IsSameText};
+ghost use Rattle.circuit_check.specs.Runs.{IsSilent, IsWritten};
+ghost use Rattle.circuit_check.specs.Verdicts.{claim_line};
+ghost use Rattle.circuit_check.specs.declared.line.Claim.TheVariants as claims;
+ghost use Rattle.cube_rules.specs.Cubes.{IsRefuted};
+ghost use Rattle.sat_output.specs.FormulaTexts.{formula_text};
+ghost use Rattle.verdicts.specs.declared.verdict.Verdict.TheVariants.{Verified};
+
+use crate::fault::CircuitFault;
+use crate::formulas::{read_never, read_same};
+use crate::line::Claim;
+use crate::shape::is_combinational;
+use circuit_clauses::{never_formula, same_formula};
+use drat_check::{LineForm, Outputs, ProofFormat, RunCounts, Verdict, run_proof};
+use log::Log;
+use sat_formula::CnfFormula;
+use sat_output::write_formula;
+use std::alloc::Global;
+use std::cell::Cell;
+use std::io;
+use std::io::{Read, Sink, Write};
+use whole_writes::write_whole;
+
+/// Reads a circuit, checks a proof that no input makes an output true, and writes the verdict's
+/// line.
+pub fn run_never<R: Log, A: Read + Drop, P: Read + Drop, W: Write>(
+    rt: &R,
+    alloc: Global,
+    text: A,
+    proof: P,
+    format: ProofFormat,
+    out: &mut W,
+) -> Result<Verdict, CircuitFault>
+    ensures line { IfOk result (λ verdict.
+        Appends (W.contents out.old) (W.contents out.new) (claim_line claims.Never verdict)) }
+    ensures silent { IsSilent result → out.new ≡ out.old }
+    ensures never { (said : List ℕ) → A.remaining text ≡ Some said
+        → result ≡ Ok Verified → IsNeverText said }
+{
+    let formula = match read_never(alloc, text) {
+        Ok(formula) => formula,
+        Err(fault) => return Err(fault),
+    };
+    let verdict = match judge(rt, alloc, &formula, proof, format) {
+        Ok(verdict) => verdict,
+        Err(fault) => return Err(fault),
+    };
+    write_verdict(out, Claim::Never, verdict)
+}
+
+/// Reads two circuits, checks a proof that they have the same outputs for the same input, and
+/// writes the verdict's line. Inputs and outputs are compared in their order.
+pub fn run_same<R: Log, A: Read + Drop, B: Read + Drop, P: Read + Drop, W: Write>(
+    rt: &R,
+    alloc: Global,
+    text: A,
+    other: B,
+    proof: P,
+    format: ProofFormat,
+    out: &mut W,
+) -> Result<Verdict, CircuitFault>
+    ensures line { IfOk result (λ verdict.
+        Appends (W.contents out.old) (W.contents out.new) (claim_line claims.Same verdict)) }
+    ensures silent { IsSilent result → out.new ≡ out.old }
+    ensures same { (said other_said : List ℕ) → A.remaining text ≡ Some said
+        → B.remaining other ≡ Some other_said → result ≡ Ok Verified
+        → IsSameText said other_said }
+{
+    let formula = match read_same(alloc, text, other) {
+        Ok(formula) => formula,
+        Err(fault) => return Err(fault),
+    };
+    let verdict = match judge(rt, alloc, &formula, proof, format) {
+        Ok(verdict) => verdict,
+        Err(fault) => return Err(fault),
+    };
+    write_verdict(out, Claim::Same, verdict)
+}
+
+/// Reads a circuit, and writes the formula that is refuted if the circuit is never true.
+pub fn write_never<A: Read + Drop, W: Write>(
+    alloc: Global,
+    text: A,
+    out: &mut W,
+) -> Result<(), CircuitFault>
+    ensures { OnOk result (HasWritten (IsNeverFormula (A.remaining text))
+        (W.contents out.old) (W.contents out.new)) }
+{
+    match read_never(alloc, text) {
+        Ok(formula) => write_text(alloc, &formula, out),
+        Err(fault) => Err(fault),
+    }
+}
+
+/// Reads two circuits, and writes the formula that is refuted if they are the same.
+pub fn write_same<A: Read + Drop, B: Read + Drop, W: Write>(
+    alloc: Global,
+    text: A,
+    other: B,
+    out: &mut W,
+) -> Result<(), CircuitFault>
+    ensures { OnOk result (HasWritten (IsSameFormula (A.remaining text) (B.remaining other))
+        (W.contents out.old) (W.contents out.new)) }
+{
+    match read_same(alloc, text, other) {
+        Ok(formula) => write_text(alloc, &formula, out),
+        Err(fault) => Err(fault),
+    }
+}
+
+/// Writes a formula as DIMACS text.
+fn write_text<W: Write>(
+    alloc: Global,
+    formula: &CnfFormula,
+    out: &mut W,
+) -> Result<(), CircuitFault>
+    ensures { OnOk result (Appends (W.contents out.old) (W.contents out.new)
+        (formula_text formula.now)) }
+{
+    match write_formula(alloc, out, formula) {
+        Ok(()) => Ok(()),
+        Err(fault) => Err(CircuitFault::Formula(fault)),
+    }
+}
+
+/// What a proof shows of a formula.
+fn judge<R: Log, P: Read + Drop>(
+    rt: &R,
+    alloc: Global,
+    formula: &CnfFormula,
+    proof: P,
+    format: ProofFormat,
+) -> Result<Verdict, CircuitFault>
+    ensures refutes { result ≡ Ok Verified → IsRefuted formula.now }
+    ensures early { IfErr result (λ fault. IsSilent (Err fault)) }
+{
+    let mut outputs: Outputs<Sink, Sink> = Outputs {
+        lrat: None,
+        form: LineForm::Text,
+        trim: None,
+        core: None,
+        counts: Cell::new(RunCounts::default()),
+    };
+    match run_proof(
+        rt,
+        alloc,
+        formula,
+        proof,
+        format,
+        &mut outputs,
+        &mut io::sink(),
+    ) {
+        Ok(verdict) => Ok(verdict),
+        Err(fault) => Err(CircuitFault::Proof(fault)),
+    }
+}
+
+/// Writes the line of a verdict.
+fn write_verdict<W: Write>(
+    out: &mut W,
+    claim: Claim,
+    verdict: Verdict,
+) -> Result<Verdict, CircuitFault>
+    ensures line { IfOk result (λ verdict.
+        Appends (W.contents out.old) (W.contents out.new) (claim_line claim verdict)) }
+    ensures same { IfOk result (λ written. written ≡ verdict) }
+    ensures written { IsWritten result }
+{
+    match write_whole(out, claim.line(verdict)) {
+        Ok(()) => Ok(verdict),
+        Err(fault) => Err(CircuitFault::Write(fault)),
+    }
+}

@@ -1,0 +1,86 @@
+//! Circuits and proofs, in files.
+use circuit_check::{
+    CircuitFault, ProofFormat, exit_status, run_never, run_same, write_never, write_same,
+};
+use command::{FAILED, Input, NOT_RUN, open_file, say_cause};
+use log::sink::Discard;
+use std::fs::File;
+use std::io;
+use std::io::{BufWriter, Write};
+
+/// What is claimed, of which files.
+#[derive(Clone, Copy)]
+pub(crate) enum Circuits<'a> {
+    Never(&'a str),
+    Same(&'a str, &'a str),
+}
+
+/// Checks a proof, and returns the exit status. An Err is that of a file that can't be opened.
+pub(crate) fn check_files(rt: &HostRuntime, circuits: Circuits<'_>, proof: &str) -> Result<u8, u8> {
+    let (alloc, format) = (rt.alloc(), ProofFormat::Told);
+    let proof = open(rt, proof)?.file;
+    let out = &mut io::writer(rt);
+    let outcome = match circuits {
+        Circuits::Never(circuit) => {
+            let circuit = open(rt, circuit)?.file;
+            run_never(&Discard, alloc, circuit, proof, format, out)
+        }
+        Circuits::Same(circuit, other) => {
+            let circuit = open(rt, circuit)?.file;
+            let other = open(rt, other)?.file;
+            run_same(&Discard, alloc, circuit, other, proof, format, out)
+        }
+    };
+    say_cause(rt, &outcome);
+    Ok(exit_status(&outcome))
+}
+
+/// Writes the formula, and returns the exit status. An Err is that of a file that can't be opened
+/// or written.
+pub(crate) fn write_files(
+    rt: &HostRuntime,
+    circuits: Circuits<'_>,
+    formula: &str,
+) -> Result<u8, u8> {
+    let alloc = rt.alloc();
+    let (outcome, mut out) = match circuits {
+        Circuits::Never(circuit) => {
+            let circuit = open(rt, circuit)?.file;
+            let mut out = create(rt, formula)?;
+            (write_never(alloc, circuit, &mut out), out)
+        }
+        Circuits::Same(circuit, other) => {
+            let circuit = open(rt, circuit)?.file;
+            let other = open(rt, other)?.file;
+            let mut out = create(rt, formula)?;
+            (write_same(alloc, circuit, other, &mut out), out)
+        }
+    };
+    let flushed = out.flush();
+    say_cause(rt, &outcome);
+    say_cause(rt, &flushed);
+    if outcome.is_ok() && flushed.is_ok() {
+        Ok(0)
+    } else {
+        Err(FAILED)
+    }
+}
+
+fn open<'a>(rt: &HostRuntime, name: &'a str) -> Result<Input<'a>, u8> {
+    open_file(rt, name).ok_or(NOT_RUN)
+}
+
+fn create(rt: &HostRuntime, name: &str) -> Result<BufWriter<File>, u8> {
+    let made = match File::create(rt, name) {
+        Ok(file) => BufWriter::new(rt.alloc(), file),
+        Err(fault) => Err(fault),
+    };
+    match made {
+        Ok(file) => Ok(file),
+        Err(fault) => {
+            let _ = eprintln!(rt; "cannot open {name}");
+            let _ = eprintln!(rt; "{fault}");
+            Err(NOT_RUN)
+        }
+    }
+}

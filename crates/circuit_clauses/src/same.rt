@@ -1,0 +1,108 @@
+//! The formula of two circuits that are the same.
+ghost use Rattle.std.specs.Prelude.{◌≡◌, [], ◌∷◌, ◌++◌, map, length, IfOk, OnOk};
+ghost use Rattle.sat_rules.specs.Clauses.{negate};
+ghost use Rattle.circuit_clauses.specs.Formulas.{HasSame};
+ghost use Rattle.circuit_rules.specs.Checks.{difference_clauses, differences, moved_gate};
+ghost use Rattle.circuit_rules.specs.Circuits.{gates_clauses};
+ghost use Rattle.circuit_text.specs.Circuits.{gate_of};
+
+use crate::fault::ClausesFault;
+use crate::gates::{add_circuit, add_gate};
+use crate::places::Places;
+use circuit_text::{Circuit, Gate};
+use sat_formula::{CnfFormula, Lit};
+use std::alloc::{AllocError, Global};
+
+/// Returns the clauses of two circuits over the same inputs and of the differences between their
+/// outputs, and the clause that some outputs differ.
+///
+/// # Errors
+///
+/// `OtherInputs` and `OtherOutputs` if the circuits have different shapes, `Unordered` and
+/// `OutOfRange` if a gate or an output of one of them reads what is not there.
+pub fn same_formula(
+    alloc: Global,
+    one: &Circuit,
+    other: &Circuit,
+) -> Result<CnfFormula, ClausesFault>
+    ensures { IfOk result (HasSame one.now other.now) }
+{
+    let places = Places::of(one, other)?;
+    let mut formula = CnfFormula::new(alloc);
+    let mut differ = Vec::new(alloc);
+    add_circuit(&mut formula, &one.gates)?;
+    add_moved(&mut formula, &places, &other.gates)?;
+    add_differences(
+        &mut formula,
+        &places,
+        &one.outputs,
+        &other.outputs,
+        &mut differ,
+    )?;
+    formula.add_clause(&differ)?;
+    Ok(formula)
+}
+
+/// Adds the clauses of the second circuit's gates.
+fn add_moved(formula: &mut CnfFormula, places: &Places, gates: &[Gate]) -> Result<(), ClausesFault>
+    ensures { OnOk result (formula.new ≡ formula.old
+        ++ gates_clauses (map (moved_gate places.now.inputs places.now.shift) (map gate_of gates.now))) }
+{
+    for gate in gates {
+        add_gate(formula, places.moved_gate(*gate)?)?;
+    }
+    Ok(())
+}
+
+/// Adds the clauses of the differences between outputs, and the literals of the differences to a
+/// clause.
+fn add_differences(
+    formula: &mut CnfFormula,
+    places: &Places,
+    outputs: &[Lit],
+    others: &[Lit],
+    differ: &mut Vec<Lit>,
+) -> Result<(), ClausesFault>
+    requires as_many { length outputs.now ≡ length others.now }
+    requires empty { differ.old.items ≡ [] }
+    ensures clauses { OnOk result (formula.new ≡ formula.old
+        ++ difference_clauses places.now.inputs places.now.shift places.now.differences
+        outputs.now others.now) }
+    ensures differ { OnOk result (differ.new.items ≡ differences places.now.differences outputs.now) }
+{
+    for index in 0..outputs.len() {
+        let difference = places.difference(index)?;
+        add_difference(
+            formula,
+            difference,
+            outputs[index],
+            places.moved(others[index])?,
+        )?;
+        add_literal(differ, difference)?;
+    }
+    Ok(())
+}
+
+/// Adds the clauses by which a literal is true only if two literals differ.
+#[tactic(auto, using(crate::proofs::ClauseLemmas::two_more))]
+fn add_difference(
+    formula: &mut CnfFormula,
+    difference: Lit,
+    one: Lit,
+    other: Lit,
+) -> Result<(), ClausesFault>
+    ensures { OnOk result (formula.new ≡ formula.old ++ (negate difference ∷ one ∷ other ∷ [])
+        ∷ (negate difference ∷ negate one ∷ negate other ∷ []) ∷ []) }
+{
+    formula.add_clause(&[!difference, one, other])?;
+    formula.add_clause(&[!difference, !one, !other])?;
+    Ok(())
+}
+
+/// Adds a literal to a clause.
+fn add_literal(clause: &mut Vec<Lit>, lit: Lit) -> Result<(), AllocError>
+    ensures { OnOk result (clause.new.items ≡ clause.old.items ++ lit ∷ []) }
+{
+    clause.push(lit)?;
+    Ok(())
+}

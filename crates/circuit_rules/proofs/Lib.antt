@@ -1,0 +1,4 @@
+pub mod Invariants
+pub mod Joined
+mod RowsFacts
+pub mod Simulation

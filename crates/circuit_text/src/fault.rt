@@ -1,0 +1,102 @@
+//! Why a circuit is not read.
+ghost use Rattle.std.specs.Prelude.{◌≡◌};
+ghost use Rattle.circuit_text.specs.Reading.{fault_of};
+ghost use Rattle.circuit_text.specs.declared.fault.Stop.TheVariants as stops;
+
+use std::alloc::AllocError;
+use std::io;
+use thiserror::Error;
+
+/// What is wrong with the text of a circuit.
+#[derive(Clone, Copy, Debug, PartialEq, Eq, Error)]
+pub enum AigerKind {
+    /// The text does not begin with `aig` and a space.
+    #[error("no header of a binary AIGER file")]
+    NoHeader,
+    /// The text begins with `aag`.
+    #[error("the text form of AIGER, which aigtoaig makes binary")]
+    TextForm,
+    /// A byte that the form does not have here.
+    #[error("malformed")]
+    Malformed,
+    /// A number of the header from 2^28 on, or a gate's number of more than five bytes.
+    #[error("number too large")]
+    NumberTooLarge,
+    /// The header's maximal variable is not the number of inputs, latches and gates.
+    #[error("the maximal variable is not the number of inputs, latches and gates")]
+    WrongMaximum,
+    /// The header counts justice properties.
+    #[error("justice properties, which are not checked")]
+    Justice,
+    /// The header counts fairness constraints.
+    #[error("fairness constraints, which are not checked")]
+    Fairness,
+    /// A literal of a variable above the maximal one.
+    #[error("literal out of range")]
+    LiteralOutOfRange,
+    /// A reset other than 0, 1 and the latch itself.
+    #[error("a reset is 0, 1 or the latch itself")]
+    WrongReset,
+    /// A gate that does not read a literal below its own, or whose second literal is above its
+    /// first one.
+    #[error("a gate reads literals below its own, the larger one first")]
+    GateOrder,
+    /// A symbol's position that is not below the count of its kind.
+    #[error("symbol out of range")]
+    SymbolOutOfRange,
+    /// The text ends before its last gate, or within a symbol.
+    #[error("the text ends too early")]
+    Unfinished,
+}
+
+/// Where a fault is.
+#[derive(Clone, Copy, Debug, PartialEq, Eq, Error)]
+pub enum Location {
+    /// A line of the text; lines count from 1, and the gates are no lines.
+    #[error("line {0}")]
+    Line(u64),
+    /// The gate of this variable.
+    #[error("gate of variable {0}")]
+    Gate(u64),
+}
+
+/// Why a reader of a circuit gave up.
+#[derive(Debug, Drop, Error)]
+pub enum AigerFault {
+    /// A read failed, or the text is longer than any that is read.
+    #[error("error reading circuit: {0}")]
+    Read(io::Error),
+    /// The first fault of the text.
+    #[error("{at}: {kind}")]
+    Wrong { at: Location, kind: AigerKind },
+    /// There was no memory for the circuit or for the bytes read ahead.
+    #[error("out of memory")]
+    OutOfMemory,
+}
+
+/// Why a byte was not taken. A fault that may hold the error of a read is larger, and would be
+/// copied for each byte.
+#[derive(Clone, Copy)]
+pub(crate) enum Stop {
+    Wrong { at: Location, kind: AigerKind },
+    OutOfMemory,
+}
+
+impl From<AllocError> for Stop {
+    ghost from_gives = { λ _ stop. stop ≡ stops.OutOfMemory };
+
+    fn from(_e: AllocError) -> Stop {
+        Stop::OutOfMemory
+    }
+}
+
+impl From<Stop> for AigerFault {
+    ghost from_gives = { λ stop fault. fault ≡ fault_of stop };
+
+    fn from(stop: Stop) -> AigerFault {
+        match stop {
+            Stop::Wrong { at, kind } => AigerFault::Wrong { at, kind },
+            Stop::OutOfMemory => AigerFault::OutOfMemory,
+        }
+    }
+}

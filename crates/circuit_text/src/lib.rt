@@ -1,0 +1,19 @@
+//! Circuits in the binary form of AIGER: inputs, latches, outputs, bad outputs, constraints and and
+//! gates.
+//!
+//! Source: Biere, Heljanko, Wieringa, AIGER 1.9 and beyond, 2011.
+#![tactic(auto)]
+
+mod circuit;
+mod fault;
+mod grammar;
+mod header;
+mod laws;
+mod number;
+mod reader;
+mod spot;
+
+pub use circuit::{Circuit, Gate, Latch};
+pub use fault::{AigerFault, AigerKind, Location};
+pub use laws::aiger_rows;
+pub use reader::read_circuit;
