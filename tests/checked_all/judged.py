@@ -1,0 +1,91 @@
+"""Random small formulas with their truth by brute force, and rows of a table against it: `tests/checked_all.sh`.
+
+judged.py make FOLDER COUNT SEED          writes formulas, and FOLDER.truth: of each its name and what has to be its outcome
+judged.py rows TABLE TRUTH REFUTED WORD.. of each formula the last row of the call WORD.. has to be right; REFUTED is the outcome \
+where the formula can't be satisfied
+judged.py last TABLE FIELD..              these fields of the last row
+judged.py edit TABLE NAME FIELD VALUE     the last row of this formula is edited
+"""
+
+import hashlib
+import itertools
+import json
+import os
+import random
+import shutil
+import sys
+
+VARIABLES = 7
+
+
+def can_be_satisfied(clauses):
+    return any(all(any((it > 0) == values[abs(it) - 1] for it in clause) for clause in clauses) for values in itertools.product((False, True), repeat=VARIABLES))
+
+
+def make(folder, count, seed):
+    draw = random.Random(int(seed))
+    os.makedirs(folder, exist_ok=True)
+    with open(f"{folder}.truth", "w", encoding="ascii") as truth:
+        for number in range(int(count)):
+            clauses = [[draw.choice((1, -1)) * it for it in draw.sample(range(1, VARIABLES + 1), 3)] for _ in range(draw.randrange(25, 65))]
+            name = f"{folder}/{number:02}.cnf"
+            with open(name, "w", encoding="ascii") as file:
+                file.write(f"p cnf {VARIABLES} {len(clauses)}\n" + "".join(f"{' '.join(map(str, it))} 0\n" for it in clauses))
+            truth.write(f"{name}\t{'s VERIFIED SAT' if can_be_satisfied(clauses) else 's VERIFIED UNSAT'}\n")
+
+
+def rows_in(table):
+    with open(table, encoding="ascii") as file:
+        return [json.loads(line) for line in file]
+
+
+def sum_of(path):
+    with open(path, "rb") as file:
+        return hashlib.sha256(file.read()).hexdigest()
+
+
+def faults(row, outcome, checkers):
+    """What is wrong with a row."""
+    if row["outcome"] != outcome:
+        yield f"outcome {row['outcome']}: {row['reason']}"
+    sums = [(it["of"], it["sha256"]) for it in row["sums"]]
+    wanted = [("formula", sum_of(row["formula"])), ("solver", sum_of(shutil.which(row["solver"][0])))]
+    if sums[:2] != wanted or not checkers <= {it for of, it in sums if of == "checker"}:
+        yield f"sums {row['sums']}"
+    if not (0 < row["seconds"] < 60 and 0 < row["processor"] < 60 and row["memory"] > 1_000_000):
+        yield "seconds, processor or memory"
+    own = row.pop("row")
+    if own != hashlib.sha256(json.dumps(row).encode()).hexdigest():
+        yield "its own sum"
+
+
+def rows(table, truth, refuted, *words):
+    last = {row["formula"]: row for row in rows_in(table) if row["solver"] == list(words)}
+    checkers = {sum_of(shutil.which(it)) for it in ("checked", "drat_check", "lrat_check", "model_check")}
+    wrong = 0
+    with open(truth, encoding="ascii") as file:
+        for name, outcome in (line.rstrip("\n").split("\t") for line in file):
+            found = list(faults(last[name], refuted if outcome == "s VERIFIED UNSAT" else outcome, checkers)) if name in last else ["no row"]
+            wrong += bool(found)
+            for fault in found:
+                print(f"{name} by {' '.join(words)}, which is {outcome}: {fault}")
+    return 1 if wrong else 0
+
+
+def edit(table, name, field, value):
+    lines = rows_in(table)
+    row = [it for it in lines if it["formula"] == name][-1]
+    row[field] = value
+    with open(table, "w", encoding="ascii") as file:
+        file.writelines(json.dumps(it) + "\n" for it in lines)
+
+
+def main(call, *words):
+    if call == "last":
+        row = rows_in(words[0])[-1]
+        print(*(row[it] for it in words[1:]), sep="\n")
+        return 0
+    return {"make": make, "rows": rows, "edit": edit}[call](*words)
+
+
+sys.exit(main(*sys.argv[1:]))
