@@ -1,24 +1,26 @@
 #!/usr/bin/env bash
-# Installs the programs, the library for other languages, man pages and completions, or takes them away again.
+# Installs the programs, the library for other languages, the layers that record sessions, man pages and completions, or takes them
+# away again.
 #
-#   ./install.sh [--built] PREFIX
+#   ./install.sh [--built | --dist] PREFIX
 #   ./install.sh --uninstall PREFIX
 #
 # All is proved and built first, unless nothing has changed since it was. With --built the programs are taken as `rt ci` or
-# `rt run` left them in crates/*/out, and the library if it is there. PREFIX/share/cefindrato/installed lists what is installed, and
-# is written first; by this list all is taken away, also after a run that failed. What is installed may be moved as a whole.
-# DESTDIR, where it is set, stands before PREFIX in all that is written. RT may name another `rt`.
+# `rt run` left them in crates/*/out, and the library if it is there. With --dist make and a C compiler build the programs of dist/; only
+# these are installed, with `checked`, `checked_all`, `verified` and the file PROVED. PREFIX/share/cefindrato/installed lists what is
+# installed, and is written first; by this list all is taken away, also after a run that failed. What is installed may be moved as a
+# whole. DESTDIR, where it is set, stands before PREFIX in all that is written. RT may name another `rt`, and STRIP another `strip`.
 set -euo pipefail
 umask 022
 
 top=$(cd "$(dirname "$0")" && pwd)
 mode=build
-if [[ ${1:-} == --built || ${1:-} == --uninstall ]]; then
+if [[ ${1:-} == --built || ${1:-} == --dist || ${1:-} == --uninstall ]]; then
   mode=${1#--}
   shift
 fi
 if (($# != 1)) || [[ -z $1 || $1 == -* ]]; then
-  echo "usage: ./install.sh [--built | --uninstall] PREFIX" >&2
+  echo "usage: ./install.sh [--built | --dist | --uninstall] PREFIX" >&2
   exit 2
 fi
 prefix=$(realpath -ms "$1")
@@ -48,13 +50,25 @@ fi
 work=$(mktemp -d)
 trap 'rm -rf "$work"' EXIT
 mapfile -t programs < <(sed -n 's/^\([a-z0-9_]*\)_main:.*/\1/p' "$top/crates.txt")
-tools=(checked cubes pieces proof_picture sessions)
+tools=(checked checked_all cubes pieces proof_picture sessions verified)
+if [[ $mode == dist ]]; then
+  if [[ ! -f $top/dist/PROVED ]]; then
+    echo "no $top/dist/PROVED: tools/dist.sh makes dist/" >&2
+    exit 1
+  fi
+  make -C "$top/dist" CC="${CC:-cc}" CFLAGS="${CFLAGS:--O2}"
+  mapfile -t programs < <(sed -n 's/^PROGRAMS = //p' "$top/dist/Makefile" | tr ' ' '\n')
+  tools=(checked checked_all verified)
+fi
 
 # built CRATE: builds a program, and says where it is
 built() {
   local program=$top/crates/$1/out/$1
+  if [[ $mode == dist ]]; then
+    program=$top/dist/${1%_main}
+  fi
   if [[ $mode == build ]]; then
-    "$top/tools/prove_and_run" "$1" --version > "$work/version" 2> "$work/said" < /dev/null || {
+    "$top/tools/prove_and_run" --build "$1" 2> "$work/said" || {
       cat "$work/said" >&2
       return 1
     }
@@ -70,11 +84,11 @@ put() {
   install -D -m "$1" "$2" "$stage/$3"
 }
 
-# put_program NAME PROGRAM [VERSION]: puts a program or tool with its man page, and its completions for three shells
+# put_program NAME PROGRAM: puts a program or tool with its man page, and its completions for three shells
 put_program() {
   local kind
   for kind in man bash zsh fish; do
-    "$top/tools/pages" "$kind" "$@" > "$work/$1.$kind"
+    "$top/tools/pages" "$kind" "$1" "$2" "$version" "${programs[@]}" "${tools[@]}" > "$work/$1.$kind"
   done
   put 755 "$2" "bin/$1"
   put 644 "$work/$1.man" "share/man/man1/$1.1"
@@ -83,22 +97,32 @@ put_program() {
   put 644 "$work/$1.fish" "share/fish/vendor_completions.d/$1.fish"
 }
 
-stage=$work/stage
-for name in "${programs[@]}"; do
-  program=$(built "${name}_main")
-  strip -o "$work/$name" "$program"
-  put_program "$name" "$work/$name"
-done
-if [[ $mode == built ]]; then
-  "$top/bindings/build.sh" --built "$work"
-else
-  "$top/bindings/build.sh" "$work"
-fi
-version=$("$work/${programs[0]}" --version | cut -d ' ' -f 2)
-for name in "${tools[@]}"; do
-  put_program "$name" "$top/tools/$name" "$version"
-done
-cat > "$work/cefindrato.pc" << END
+# put_layers: puts what records sessions: as sources, and for picosat as the library that is loaded ahead of it. No name of C++ is
+# left visible in that, so that it meets no other library's.
+put_layers() {
+  local name
+  for name in "$top"/bindings/sessions/*; do
+    put 644 "$name" "share/cefindrato/sessions/${name##*/}"
+  done
+  if ! command -v "${CXX:-c++}" > "$work/said"; then
+    echo "${CXX:-c++} is not installed: no picosat_preload.so" >&2
+    return
+  fi
+  echo '{ global: picosat_*; local: *; };' > "$work/names"
+  "${CXX:-c++}" -std=c++17 -O2 -shared -fPIC -s -ffunction-sections -static-libstdc++ -static-libgcc -Wl,--gc-sections \
+    "-Wl,--version-script=$work/names" -o "$work/picosat_preload.so" "$top/bindings/sessions/picosat_preload.cpp" -ldl
+  put 644 "$work/picosat_preload.so" lib/cefindrato/picosat_preload.so
+}
+
+# put_library: puts the library with its headers, and what pkg-config reads
+put_library() {
+  local name header
+  if [[ $mode == built ]]; then
+    "$top/bindings/build.sh" --built "$work"
+  else
+    "$top/bindings/build.sh" "$work"
+  fi
+  cat > "$work/cefindrato.pc" << END
 prefix=\${pcfiledir}/../..
 includedir=\${prefix}/include
 libdir=\${prefix}/lib
@@ -109,15 +133,35 @@ Version: $version
 Cflags: -I\${includedir}
 Libs: -L\${libdir} -lcefindrato
 END
-for header in "$top"/bindings/{c,cpp}/*.h*; do
-  put 644 "$header" "include/${header##*/}"
+  for header in "$top"/bindings/{c,cpp}/*.h*; do
+    put 644 "$header" "include/${header##*/}"
+  done
+  put 644 "$work/libcefindrato.a" lib/libcefindrato.a
+  put 644 "$work/libcefindrato.so" "lib/libcefindrato.so.$version"
+  for name in libcefindrato.so.0 libcefindrato.so; do
+    ln -s "libcefindrato.so.$version" "$stage/lib/$name"
+  done
+  put 644 "$work/cefindrato.pc" lib/pkgconfig/cefindrato.pc
+}
+
+stage=$work/stage
+for name in "${programs[@]}"; do
+  program=$(built "${name}_main")
+  "${STRIP:-strip}" -o "$work/$name" "$program"
 done
-put 644 "$work/libcefindrato.a" lib/libcefindrato.a
-put 644 "$work/libcefindrato.so" "lib/libcefindrato.so.$version"
-for name in libcefindrato.so.0 libcefindrato.so; do
-  ln -s "libcefindrato.so.$version" "$stage/lib/$name"
+version=$("$work/${programs[0]}" --version | cut -d ' ' -f 2)
+for name in "${programs[@]}"; do
+  put_program "$name" "$work/$name"
 done
-put 644 "$work/cefindrato.pc" lib/pkgconfig/cefindrato.pc
+for name in "${tools[@]}"; do
+  put_program "$name" "$top/tools/$name"
+done
+if [[ $mode == dist ]]; then
+  put 644 "$top/dist/PROVED" share/doc/cefindrato/PROVED
+else
+  put_library
+  put_layers
+fi
 put 644 /dev/null share/cefindrato/installed
 
 if [[ -f $list ]]; then

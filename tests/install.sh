@@ -45,9 +45,18 @@ described() {
   same "statuses of $1" $'0\n1\n2\n3' "$(list 'exit status' "$help")"
   "$prefix/bin/$1" --example > "$work/said" 2>&1 || status=$?
   if (($(list options "$help" | grep -cx -- --example) == 1)); then
-    same "the example of $1" 0 "$status"
+    same "the example of $1" "$(example_status "$1")" "$status"
   else
     same "$1 without an example" 2 "$status"
+  fi
+}
+
+# example_status PROGRAM: follows_check ends as solvers do
+example_status() {
+  if [[ $1 == follows_check ]]; then
+    echo 20
+  else
+    echo 0
   fi
 }
 
@@ -60,6 +69,10 @@ for name in "${programs[@]}"; do
   said=$("$prefix/bin/$name" --version)
   same "$name --version" "$name" "${said%% *}"
   described "$name"
+done
+version=$("$prefix/bin/lrat_check" --version | cut -d ' ' -f 2)
+for name in checked_all proof_picture sessions; do
+  same "$name --version" "$name $version" "$("$prefix/bin/$name" --version)"
 done
 
 # words NAME: the options of a program, and its calls where it has several
@@ -86,6 +99,15 @@ offered() {
   fi
 }
 
+# said_beside NAME HELP: lines of a page that are not in what its program says of itself
+said_beside() {
+  local line all
+  all=$(tr -s ' \n' ' ' <<< "$2")
+  sed '/^\.SH SEE ALSO/,$d; /^\./d; s/\\f[BIR]//g; s/\\&//; s/\\-/-/g; s/\\e/\\/g' | sed "s/\\\\(aq/'/g; s/^$1 - //" | while read -r line; do
+    [[ ${all,,} == *"${line,,}"* ]] || echo "$line"
+  done
+}
+
 has_zsh='' has_fish=''
 if has zsh; then
   has_zsh=yes
@@ -107,8 +129,12 @@ for name in "${all[@]}"; do
       wrong=1
     fi
   fi
-  same "sections of $name" "$(printf '%s\n' NAME SYNOPSIS DESCRIPTION OPERANDS OPTIONS 'EXIT STATUS' EXAMPLES LIMITS 'SEE ALSO')" \
-    "$(sed -n 's/^\.SH //p' "$page" | grep -vxE 'ENVIRONMENT|CALLS')"
+  usage=$("$prefix/bin/$name" --help)
+  same "sections of $name" "$(printf '%s\n' NAME SYNOPSIS DESCRIPTION; sed -n 's/^\([a-z][a-z ]*\):$/\U\1/p' <<< "$usage"; echo 'SEE ALSO')" \
+    "$(sed -n 's/^\.SH //p' "$page")"
+  same "sections that $name lacks" '' \
+    "$(comm -23 <(printf '%s\n' OPERANDS OPTIONS 'EXIT STATUS' EXAMPLES | sort) <(sed -n 's/^\.SH //p' "$page" | sort))"
+  same "what the page of $name says beside --help" '' "$(said_beside "$name" "$usage" < "$page")"
   same "what the page of $name names" "$(printf '%s\n' "${all[@]}" | grep -vx "$name")" \
     "$(sed -n '/^\.SH SEE ALSO/,$p' "$page" | grep -o 'fB[^\]*' | sed 's/^fB//')"
   same "completions of $name" "complete -o default -W '$(words "$name" | tr '\n' ' ' | sed 's/ $//')' $name" \
@@ -134,6 +160,25 @@ printf '1 0\n-1 0\n' > "$work/opposite.cnf"
 status=0
 said=$(PATH=$prefix/bin:$PATH checked "$work/solver" "$work/opposite.cnf") || status=$?
 same 'checked' '20 s VERIFIED UNSAT' "$status $said"
+
+# what records sessions: as it is installed it shows the names of picosat alone, and records
+if has c++; then
+  layer=$prefix/lib/cefindrato/picosat_preload.so
+  same 'names of the layer' '' "$(nm -D --defined-only "$layer" | awk '{ print $3 }' | grep -v '^picosat_' || true)"
+  same 'what the layer loads' '' "$(readelf -d "$layer" | grep NEEDED | grep -vE 'lib(c|m|dl)\.so|ld-linux' || true)"
+  if [[ -e /usr/include/picosat/picosat.h ]]; then
+    cc -O2 -o "$work/resolver" "$top/tests/sessions/resolver.c" -lpicosat
+    mkdir "$work/recorded"
+    # (LD_PRELOAD takes a blank for the end of a name)
+    cp "$layer" "$work/layer.so"
+    said=$(SESSION_RECORD=$work/recorded/it LD_PRELOAD=$work/layer.so "$work/resolver" 20 20)
+    same 'a recorded session' "all answers are shown: $said, 0 unknown, in 1 session" \
+      "$(PATH=$prefix/bin:$PATH sessions check "$work/recorded" 2>&1 || true)"
+  else
+    echo 'picosat is not installed: not tried'
+  fi
+fi
+same 'sources of the layers' "$(cd "$top/bindings/sessions" && sha256sum -- *)" "$(cd "$prefix/share/cefindrato/sessions" && sha256sum -- *)"
 
 # the library by pkg-config, in a folder that was moved: the shared one, and the static one
 if has pkg-config; then

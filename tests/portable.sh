@@ -94,6 +94,28 @@ for name in "${names[@]}"; do
   python3 -B "$top/tests/portable/compare.py" "$name" "$top/tests/data" "${forms[@]}" || wrong=1
 done
 
+# called STATUS OUTPUT WORD..: what node is called with, and that it says this on standard output or on standard error, and no more
+called() {
+  local status=0 said
+  said=$(node "$out/cefindrato.mjs" "${@:3}" 2> "$work/err") || status=$?
+  same "node cefindrato.mjs ${*:3}" "$1 $2" "$status $said$(cat "$work/err")"
+}
+if has node; then
+  version=$(sed -n 's/^const VERSION: &str = "\([^ "]*\).*/\1/p' "$top/crates/command/src/status.rt")
+  usage=$(node "$out/cefindrato.mjs" --help)
+  same 'what node names' "  NAME  the program, one of those beside this file: $(printf '%s\n' "${names[@]}" | sort | paste -s -d , | sed 's/,/, /g')" \
+    "$(grep '^  NAME' <<< "$usage")"
+  called 0 "$usage" -h
+  for flag in -V --version; do
+    called 0 "cefindrato.mjs $version" "$flag"
+  done
+  more='(node cefindrato.mjs --help says how it is called)'
+  called 2 "there is no option --halp $more" --halp
+  called 2 "there is no program none $more" none
+  called 2 "there is no program ../forms/$name $more" "../forms/$name"
+  called 2 "no program is named $more"
+fi
+
 # The page: a verdict, a fault, and files that it can't take
 if has chromium && has node; then
   python3 -B "$top/tests/portable/cases.py" "$top/tests/data" "$work" "${names[@]}" > "$work/cases"

@@ -1,6 +1,6 @@
 #!/usr/bin/env bash
-# Packs what is built, here and in another checkout, and uses each package where nothing else is: in an empty root, in a fresh Debian,
-# in a venv of Python.
+# Packs what is built, here and in another checkout, and uses each package where nothing else is: in an empty root, also by the commands of
+# README.md, in a fresh Debian, in a venv of Python; and on processors that qemu-x86_64 imitates.
 #
 #   tests/release.sh [BOOKWORM]
 #
@@ -102,6 +102,7 @@ for bundle in "$work"/one/*.tar.gz; do
   folder=$work/$(basename "$bundle" .tar.gz)
   same "the record of $folder" "$(cat "$work/one/PROVED")" "$(cat "$folder/share/doc/cefindrato/PROVED")"
   same "the licence of $folder" "$(cat "$top/LICENSE")" "$(cat "$folder/share/doc/cefindrato/LICENSE")"
+  python3 -B "$top/tests/documents/links.py" "$folder/share/doc/cefindrato" || wrong=1
   (cd "$folder" && for file in bin/*; do
     grep -q "^$(sha256sum < "$file" | cut -d ' ' -f 1)  $file " "$work/one/PROVED" || echo "$folder/$file is not in PROVED"
   done) > "$work/missing"
@@ -178,10 +179,72 @@ else
   echo 'no static programs or no namespaces here: not tried in an empty root'
 fi
 
+# A processor without x86-64-v2, as docs/USING.md names them, and one that has it
+for program in "${static[@]}"; do
+  if has qemu-x86_64; then
+    for processor in kvm64 qemu64 phenom; do
+      status=0
+      said=$(cd "$work" && qemu-x86_64 -cpu "$processor" "$name-static/bin/$program" four.cnf four.lrat 2>&1) || status=$?
+      same "$program on $processor" '127 this machine lacks a feature of x86-64-v2' \
+        "$status $(grep -v '^qemu-x86_64: warning' <<< "$said" | cut -d , -f 1)"
+    done
+    same "$program on Nehalem" "$(verdicts "$program")" \
+      "$(cd "$work" && PREFIX="qemu-x86_64 -cpu Nehalem $name-static/bin/" bash -c "$(calls "$program")")"
+  fi
+done
+
+# plain_blocks HEADING: the blocks of README.md without a language below this heading, up to the next one
+plain_blocks() {
+  awk -v heading="$1" '/^```/ { open = !open; plain = open && $0 == "```"; next }
+    !open && /^#/ { below = $0 == heading }
+    below && plain' "$top/README.md"
+}
+
+# bring PROGRAM: copies it into the root of the test, with the libraries that it loads
+bring() {
+  local library
+  cp -L "$(type -P "$1")" "$bare/bin/$1"
+  { ldd "$bare/bin/$1" || true; } 2> "$work/said" | grep -o '/[^ ]*' | while read -r library; do
+    install -D "$library" "$bare$library"
+  done
+}
+
+# The commands of README.md, word for word, in a root that has the static package, a formula, a solver, and the tools of busybox: first
+# those that unpack it, and then the first one, with the folder of programs on the path
+bare=$work/bare
+enter=(unshare --mount --map-root-user bash -c 'mount --rbind /dev "$1/dev" && shift && exec "$@"' - "$bare" chroot "$bare"
+  /bin/busybox env -i "PATH=/bin:/home/$name-static/bin")
+mkdir -p "$bare"/{bin,dev,home,tmp}
+if [[ -f $work/one/$name-static.tar.gz && " ${static[*]} " == *' drat_check '* ]] && has busybox && has cadical; then
+  bring busybox
+  bring cadical
+  cp "$work/one/$name-static.tar.gz" "$bare/home/"
+  if "${enter[@]}" /bin/busybox --install -s /bin > "$work/said" 2>&1; then
+    for row in 'four:4:20 s VERIFIED UNSAT' 'one:1:10 s VERIFIED SAT'; do
+      IFS=: read -r formula count verdict <<< "$row"
+      # (cadical reads no formula without its header)
+      { echo "p cnf 2 $count" && cat "$work/$formula.cnf"; } > "$bare/home/formula.cnf"
+      for heading in '## Install' '# Cefindrato'; do
+        status=0
+        said=$("${enter[@]}" sh -c "cd /home && $(plain_blocks "$heading")" 2> "$work/said") || status=$?
+        same "README.md, $heading, in an empty root" "$verdict" "$status $said$(cat "$work/said")"
+      done
+    done
+  else
+    echo "no root of its own here: README's commands are not tried in one: $(cat "$work/said")"
+  fi
+else
+  echo "README's commands are not tried in an empty root"
+fi
+
 # The Debian package: by lintian, and in a fresh root
 package=$work/one/cefindrato_${version}_amd64.deb
+if [[ -f $package ]]; then
+  dpkg-deb -x "$package" "$work/unpacked"
+  python3 -B "$top/tests/documents/links.py" "$work/unpacked/usr/share/doc/cefindrato" || wrong=1
+fi
 if [[ -f $package ]] && has lintian; then
-  lintian --fail-on error "$package" > "$work/lintian" 2>&1 || {
+  lintian --allow-root --fail-on error,warning "$package" > "$work/lintian" 2>&1 || {
     cat "$work/lintian"
     wrong=1
   }
@@ -212,6 +275,14 @@ if [[ -f $wheel ]] && python3 -m venv "$work/venv" > "$work/said" 2>&1; then
   "$work/venv/bin/pip" install -q --no-index --disable-pip-version-check "$wheel"
   (cd "$work" && venv/bin/python -B "$top/tests/release/wheel.py" "$top/tests/data") || wrong=1
   same 'verdicts of the wheel' "$(verdicts "${static[@]}")" "$(cd "$work" && PREFIX=$work/venv/bin/ bash -c "$(calls "${static[@]}")")"
+  if has_object drat_check; then
+    # a script finds the programs beside it, also if the venv is not activated
+    printf '#!/bin/sh\nprintf "1 0\\n0\\n" > "$2"\nexit 20\n' > "$work/refuter"
+    chmod +x "$work/refuter"
+    status=0
+    said=$(cd "$work" && PATH=/usr/bin:/bin venv/bin/checked ./refuter four.cnf 2>&1) || status=$?
+    same 'checked of the wheel' '20 s VERIFIED UNSAT' "$status $said"
+  fi
 else
   echo 'no wheel or no venv here: not tried'
 fi

@@ -203,6 +203,6 @@ for name in "${names[@]}"; do
     aarch64 "$name"
   fi
 done
-cat "$own/system.mjs" "$own/node.mjs" > "$out/cefindrato.mjs"
 version=$(sed -n 's/^const VERSION: &str = "\([^ "]*\).*/\1/p' "$top/crates/command/src/status.rt")
+sed "s/@VERSION@/$version/" "$own/system.mjs" "$own/node.mjs" > "$out/cefindrato.mjs"
 python3 -B "$own/page.py" "$version" "$(git -C "$top" rev-parse HEAD 2> "$work/said" || echo 'not known')" "$out" "${names[@]}" > "$out/cefindrato.html"

@@ -22,22 +22,15 @@ if (($# < 1 || $# > 2)) || [[ -z $1 || $1 == -* ]]; then
   exit 2
 fi
 top=$(cd "$(dirname "$0")/.." && pwd)
-own=$top/tools/release
 out=$(realpath -m "$1")
-verdict=
-if (($# == 2)); then
-  # what a whole run ends with: notes, what was done in it and what was kept, and the counts
-  verdict=$(sed -n '/^rt: note: /p; /^rt: ok; /p; $p' "$2")
-  if [[ ! ${verdict##*$'\n'} =~ ^[0-9]+\ passed,\ 0\ failed$ || $'\n'$verdict != *$'\nrt: ok; '* ]]; then
-    echo "$2 is no whole test run: its last line is: ${verdict##*$'\n'}" >&2
-    exit 1
-  fi
-fi
-SOURCE_DATE_EPOCH=${SOURCE_DATE_EPOCH:-$(git -C "$top" log -1 --format=%ct)}
-export SOURCE_DATE_EPOCH LC_ALL=C TZ=UTC
 umask 022
 work=$(mktemp -d)
 trap 'rm -rf "$work"' EXIT
+. "$top/tools/release/proved.sh"
+run=
+if (($# == 2)); then
+  run=$(whole_run "$2")
+fi
 mkdir -p "$out"
 
 # has PROGRAM PACKAGE FORM: whether a form can be made here
@@ -48,48 +41,29 @@ has() {
   }
 }
 
-# logic_of FILE: the sum of the logic in which a program or a library is proved, as it says itself
-logic_of() {
-  { readelf -p .comment "$1" 2> "$work/said" || true; } | sed -n 's/.*rattle logic=//p'
-}
-
 # What is packed, as it is installed, and what belongs to it
 stage=$work/usr
 "$top/install.sh" --built "$stage"
-kit=$(dirname "$(dirname "$(readlink -f "$(command -v "${RT:-rt}")")")")
-
-# built NAME: the program of a name as it was built, if it is one of those that are proved
-built() {
-  local program=$top/crates/$1_main/out/$1_main
-  [[ -f $program ]] && echo "$program"
-}
 for program in "$stage"/bin/*; do
-  if built "${program##*/}" > "$work/said" && [[ $(logic_of "$program") != "$(sed -n '1s/.* logic //p' "$kit/KIT-ID")"* ]]; then
-    echo "${program##*/} was not proved by $(head -n 1 "$kit/KIT-ID"): build it again" >&2
-    exit 1
+  if built "${program##*/}" > "$work/said"; then
+    is_proved_here "${program##*/}" "$program"
   fi
 done
-rm -r "$stage/share/cefindrato"
+rm "$stage/share/cefindrato/installed"
 version=$("$stage/bin/lrat_check" --version | cut -d ' ' -f 2)
 name=cefindrato-$version-linux-x86_64
 documents=$work/documents
-(cd "$top" && cp -R --parents README.md CHANGELOG.md LICENSE docs/*.md docs/picture.svg docs/reference "$(mkdir "$documents" && echo "$documents")")
-
-# has_object PROGRAM: whether the object beside a proved program is its own: linked as `rt` does, it gives the same bytes
-has_object() {
-  [[ -f $1.o ]] && "$own/link.sh" "$1.o" "$work/again" && cmp -s "$work/again" "$1"
-}
+python3 -B "$own/documents.py" "$top" "$documents"
 
 # static_programs: those of which the object is there, linked with a C library in place of the toolchain's archives; and the scripts
 static_programs() {
-  local program name from lacking=()
+  local program name lacking=()
   musl-gcc -O2 -c -o "$work/rt.o" "$own/rt.c"
   for program in "$stage"/bin/*; do
     name=${program##*/}
-    if ! from=$(built "$name"); then
+    if ! built "$name" > "$work/said"; then
       cp "$program" "$work/static/bin/"
-    elif has_object "$from"; then
-      objcopy --redefine-sym main=rattle_main "$from.o" "$work/program.o"
+    elif object_of "$name" "$work/program.o"; then
       musl-gcc -static -s -Wl,--gc-sections -o "$work/static/bin/$name" "$work/program.o" "$work/rt.o"
     else
       lacking+=("$name")
@@ -124,7 +98,7 @@ fi
 # sums FOLDER: the sum of each program and library there, and the logic in which it is proved
 sums() {
   local file logic
-  (cd "$1" && find . -path './bin/*' -o -type f -name 'lib*') | sed 's|^\./||' | sort | while read -r file; do
+  (cd "$1" && find . -path './bin/*' -o -type f \( -name 'lib*' -o -name '*.so' \)) | sed 's|^\./||' | sort | while read -r file; do
     logic=$(logic_of "$1/$file")
     printf '%s  %-26s %s\n' "$(sha256sum < "$1/$file" | cut -d ' ' -f 1)" "$file" "${logic:-not proved}"
   done
@@ -132,12 +106,7 @@ sums() {
 
 # record: what was proved, by what, and what the files say of it themselves
 record() {
-  echo "version     $version"
-  echo "commit      $(git -C "$top" rev-parse HEAD)$(git -C "$top" diff --quiet HEAD || echo ', and changes that are not in it')"
-  echo "date        $(date -u -d "@$SOURCE_DATE_EPOCH" +%FT%TZ)"
-  sed -n '1s/^/toolchain   /p' "$kit/KIT-ID"
-  sed -n 's/^\(archive\|compiler\) \(.*\)/            \1 sha256 \2/p' "$kit/WHAT"
-  sed '1s/^/test run    /; 2,$s/^/            /' <<< "${verdict:-NONE: no output of \`rt ci\` was given; each program is proved, and nothing says that all tests passed}"
+  record_head "$version" "$run"
   cat "$own/record.txt"
   echo
   echo 'sha256, file, and the sum of the logic in which it is proved'

@@ -1,6 +1,6 @@
 
 // node cefindrato.mjs NAME WORD..: the program NAME.wasm beside this file, as it is called anywhere else
-import { closeSync, fstatSync, openSync, readFileSync, readSync, renameSync, statSync, unlinkSync, writeSync } from 'node:fs'
+import { closeSync, fstatSync, openSync, readdirSync, readFileSync, readSync, renameSync, statSync, unlinkSync, writeSync } from 'node:fs'
 
 const tried = (call) => {
   try {
@@ -23,10 +23,38 @@ const system = {
   }),
   environment: (name) => process.env[name],
 }
-const [, , called, ...words] = process.argv
-if (!called) {
-  console.error('usage: node cefindrato.mjs NAME WORD..')
+const VERSION = '@VERSION@'
+const names = readdirSync(new URL('.', import.meta.url)).filter((it) => it.endsWith('.wasm')).map((it) => it.slice(0, -5)).sort()
+const HELP = `usage: node cefindrato.mjs NAME WORD..
+
+Run a proved program that was made for WebAssembly, with the same words as elsewhere.
+
+operands:
+  NAME  the program, one of those beside this file: ${names.join(', ')}
+  WORD  the arguments of the program: NAME --help shows them
+
+options:
+  --help     show this help, as -h
+  --version  show the version, as -V
+
+exit status:
+  2  there is no such program or option; any other is the program's
+`
+const refuse = (why) => {
+  console.error(`${why} (node cefindrato.mjs --help says how it is called)`)
   process.exit(2)
 }
-const module = await WebAssembly.compile(readFileSync(new URL(`${called}.wasm`, import.meta.url)))
-process.exitCode = runProgram(module, [called, ...words], system)
+const [, , called = '', ...words] = process.argv
+if (called === '-h' || called === '--help') {
+  process.stdout.write(HELP)
+} else if (called === '-V' || called === '--version') {
+  console.log(`cefindrato.mjs ${VERSION}`)
+} else if (called.startsWith('-')) {
+  refuse(`there is no option ${called}`)
+} else if (!names.includes(called)) {
+  refuse(called ? `there is no program ${called}` : 'no program is named')
+} else {
+  const bytes = readFileSync(new URL(`${called}.wasm`, import.meta.url))
+  const module = await WebAssembly.compile(bytes).catch((why) => refuse(`${called}.wasm is no module: ${why.message}`))
+  process.exitCode = runProgram(module, [called, ...words], system)
+}

@@ -13,10 +13,10 @@ mkdir -p "$root/DEBIAN"
 cp -R "$1" "$root/usr"
 mkdir -p "$root/usr/share/doc" "$root/usr/share/lintian/overrides"
 cp -R "$2" "$documents"
-rm "$documents/LICENSE"
-cp "$own/copyright" "$documents/"
+cp "$own/../../debian/copyright" "$documents/"
+ln -sf copyright "$documents/LICENSE"
 maintainer=$(sed -n 's/^Maintainer: //p' "$own/control")
-printf 'cefindrato (%s) unstable; urgency=medium\n\n  * What changed is told in CHANGELOG.md.\n\n -- %s  %s\n' \
+printf 'cefindrato (%s) unstable; urgency=medium\n\n  * See CHANGELOG.md.\n\n -- %s  %s\n' \
   "$3" "$maintainer" "$(date -u -R -d "@$SOURCE_DATE_EPOCH")" | gzip -n -9 > "$documents/changelog.gz"
 find "$root/usr/share/man" -type f -exec gzip -n -9 {} +
 cp "$own/overrides" "$root/usr/share/lintian/overrides/cefindrato"

@@ -18,11 +18,14 @@ METADATA = """Metadata-Version: 2.1
 Name: cefindrato
 Version: {version}
 Summary: Proved checkers of SAT solvers' proofs and answers
+Maintainer: Cefindrato maintainers
 License: MIT OR Apache-2.0
 Requires-Python: >=3.8
 Description-Content-Type: text/plain
 
 {about}
+
+tools/release.sh of the source repository made this wheel. The file PROVED in its .dist-info names the commit and the toolchain.
 """
 WHEEL = "Wheel-Version: 1.0\nGenerator: cefindrato\nRoot-Is-Purelib: false\n" + "".join(f"Tag: py3-none-{tag}\n" for tag in TAGS)
 # (the first moment that a zip file can name)
