@@ -8,11 +8,18 @@ trap 'rm -rf "$told"' EXIT
 tests/documents.sh
 tests/layout.sh
 tests/wrong_bodies.sh --records
+tests/wrong_definitions.sh --records
 
-rt ci 2>&1 | tee "$told/gate"
+# `rt ci` puts libraries of an earlier run back in place of its own. Without them, all that follows is built over those of this run.
+# What checks have kept, in out/incremental, stays.
+rm -rf crates/*/out/rlib
+proved=0
+rt ci 2>&1 | tee "$told/gate" || proved=$?
+python3 -B tests/wrong_bodies/toolchain.py .
+((proved == 0)) || exit "$proved"
 tests/weak_edits.sh "$told/gate"
 
-# run SCRIPT: its lines, its name and its seconds, together; a name that is left in `failed` if it failed. What uses the archive of the
+# run SCRIPT [WORD ..]: its lines, its name and its seconds, together; a name that is left in `failed` if it failed. What uses the archive of the
 # library, or the module of a program, waits until they are made, but not for ever.
 run() {
   local status=0
@@ -23,7 +30,7 @@ run() {
     done
   fi
   SECONDS=0
-  "tests/$1.sh" > "$told/$1" 2>&1 || status=$?
+  "tests/$1.sh" "${@:2}" > "$told/$1" 2>&1 || status=$?
   cat "$told/$1"
   echo "tests/$1.sh ended with status $status after $SECONDS s"
   [[ $status == 0 ]] || echo "$1" >> "$told/failed"
@@ -32,8 +39,8 @@ run() {
 export -f run
 export told
 # (two more than there are processors, since at first two wait for the library)
-printf '%s\n' library release portable slurm refused_growths sessions cubes pieces failing_files drat_fuzz lrat_fuzz drat_outputs install bindings \
-  log_lines end_to_end drat_solvers frat large_formulas named_files examples checked definitions proof_picture solver_runs prove_and_run memory model_check |
+printf '%s\n' library 'wrong_bodies --asked' release portable slurm refused_growths sessions cubes pieces failing_files drat_fuzz drat_growth lrat_fuzz drat_outputs install bindings \
+  log_lines end_to_end drat_solvers frat large_formulas named_files examples records checked checked_all verified definitions proof_picture solver_runs prove_and_run memory model_check follows circuit_check dist packages |
   xargs -P "$(($(nproc) + 2))" -I SCRIPT bash -c 'run SCRIPT'
 
 # What failed is told once more at the end, where it is looked for.

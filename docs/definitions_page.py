@@ -22,34 +22,33 @@ VARIANT = re.compile(r"^    (\w+)(\([^)]*\))?,$", re.MULTILINE)
 
 HEAD = """# What `s VERIFIED UNSAT` means, whole
 
-Made by `docs/definitions_page.py` from the files that it names, this page has all definitions that `IsRefuted` reaches: {count} of \
-them, {lines} lines with their comments. Whoever has read it knows what a program claims by that line; that the claim is proved, and \
-what else it rests on, is said in [TRUST.md](TRUST.md). The same in Python, to run on one's own texts, is `docs/definitions.py`.
+This page is all that the line claims: the {count} definitions that `IsRefuted` reaches, {lines} lines with their comments. \
+`docs/definitions_page.py` makes it from the files that it names. What is proved about the claim, and what you trust, is in \
+[TRUST.md](TRUST.md). `docs/definitions.py` has the same definitions in Python, to run on your own texts.
 
 ## Notation
 
 | written | is |
 |---|---|
-| `f : A → B → C` | the type of `f`, which takes an `A` and a `B` and gives a `C`. `f x y` is its value; `(f x) y` is the same |
-| `abbrev pub f`, `unfoldable pub f` | a definition. The lines below it are its equations, by the form of what it takes |
+| `f : A → B → C` | the type of a function `f` from an `A` and a `B` to a `C`. `f x y` is its value; `(f x) y` is the same |
+| `abbrev pub f`, `unfoldable pub f` | a definition. The lines below it are its equations, one for each form of the arguments |
 | `ℕ`, `Bool`, `Option A` | the numbers 0, 1, 2 and so on; `true` or `false`; `None`, or `Some` of an `A` |
-| `List A`, `[]`, `x ∷ xs`, `xs ++ ys` | lists; the empty one; `x` before the list `xs`; one list behind the other |
-| `λ x. E` | the function that takes `x` and gives `E` |
-| `A × B`, `(x, y)`, `o.0`, `o.1` | pairs: their type, one of them, its parts |
-| `(x : A) × P` | there is an `x` of which `P` holds. What it is, is part of the proof |
-| `(x : A) → P` | `P` holds of every `x` |
-| `x ≡ y` | a claim: both are the same. `x == y`, of numbers, is computed, and is `true` or `false` |
-| `data T where A : T` | a type that has the values below it and no others |
-| `m / 2`, `m % 2`, `2 ^ 28`, `m - n` | quotient, remainder, power; a difference, which is 0 where `n` is the greater one |
+| `List A`, `[]`, `x ∷ xs`, `xs ++ ys` | lists; the empty list; `x` in front of the list `xs`; two lists, concatenated |
+| `λ x. E` | the function from `x` to `E` |
+| `A × B`, `(x, y)`, `o.0`, `o.1` | pairs: the type, a pair, its two parts |
+| `(x : A) × P` | there is an `x` with the property `P`. The proof contains it |
+| `(x : A) → P` | every `x` has the property `P` |
+| `x ≡ y` | a claim: both are equal. `x == y` compares two numbers and is `true` or `false` |
+| `data T where A : T` | a type with the values listed below it and no others |
+| `m / 2`, `m % 2`, `2 ^ 28`, `m - n` | quotient, remainder, power, and difference, which is 0 if `n` is greater |
 
-Of the library: `list_any p xs`, `list_all p xs`: some, every element passes `p`. `filter p xs`: those that do; `find p xs`: the first \
-that does. `slice_split p xs`: the pieces of `xs` between the elements that pass `p`, one more than there are of these. `codes "cnf"`: \
-the bytes of the word; `bytes_eq`: both lists are the same. `nat_lt m n`, `nat_le m n`: `m` is less, is not greater. `Token` and \
-`DimacsKind` are enums of the reader's code:
+From the library: `list_any p xs` and `list_all p xs`: some element, every element passes the test `p`. `filter p xs`: the elements that \
+pass; `find p xs`: the first that passes. `slice_split p xs`: `xs` split at the elements that pass `p`. `codes "cnf"`: the bytes of the \
+word; `bytes_eq`: both lists are equal. `nat_lt m n`, `nat_le m n`: `m < n`, `m ≤ n`. `Token` and `DimacsKind` are enums of the \
+reader's code:
 
 {enums}
-A literal is a code: twice the index of its variable, and 1 more if it is negative. An assignment gives each index `true` or \
-`false`.
+A literal is a code: twice the index of its variable, plus 1 if it is negative. An assignment maps each index to `true` or `false`.
 
 ## The definitions
 """

@@ -21,6 +21,8 @@ WAYS = {
     "hint_check": ("hint_checker", "hint_check"),
     "varisat_check": ("proof_bytes", "checker_steps", "clause_store", "varisat_checker", "varisat_check"),
     "model_check": ("answer_text", "model_check"),
+    "follows_check": ("drat_text", "drat_elaborate", "lrat_checker", "follows_check"),
+    "minimal_check": ("drat_text", "drat_elaborate", "lrat_checker", "follows_check"),
     "drat_cut": ("drat_text", "drat_cut"),
     "lrat_to_proof": ("lrat_text", "lrat_to_proof"),
 }

@@ -7,6 +7,8 @@ In the list "examples" of a program's `--help` each call stands below what it do
 uses; `solver` and `cadical` are scripts that write what the program reads. It has to end well, and to say why nowhere.
 """
 
+import hashlib
+import json
 import lzma
 import os
 import re
@@ -16,7 +18,7 @@ import tempfile
 
 BLOCK = re.compile(r"^```\n(\$ .*?)^```$", re.MULTILINE | re.DOTALL)
 HELP_EXAMPLE = re.compile(r"^  \S.*:\n      (\S.*)$", re.MULTILINE)
-TOOLS = ("checked", "cubes", "pieces", "proof_picture")
+TOOLS = ("checked", "checked_all", "cubes", "pieces", "proof_picture", "sessions", "verified")
 
 # Files for the calls of `--help`: a formula that can't be satisfied with its proofs, and for `model_check` one that can be.
 REFUTED = b"p cnf 2 4\n1 2 0\n1 -2 0\n-1 2 0\n-1 -2 0\n"
@@ -27,7 +29,31 @@ LRAT = b"5 1 0 1 2 0\n6 0 5 3 4 0\n"
 PROOF_BYTES = bytes.fromhex(
     "06000100 02aa90d494b0b2ddd7c401c1988e93c8eafff366 06000002 9598ae9aa8cbffeb66fe90f49dd093ddcfc4010d".replace(" ", "")
 )
-CADICAL = '#!/bin/sh\nfor proof; do :; done\n[ "$proof" != - ] || proof=/dev/stdout\nprintf "1 0\\n0\\n" > "$proof"\nexit 20\n'
+# A clause, and a query that fails under the opposite assumption.
+ICNF = b"p icnf\ni 1 0\nq -1 0\ns UNSATISFIABLE\n"
+IDRUP = b"p idrup\ni 1 0\nq -1 0\ns UNSATISFIABLE\nu -1 0\n"
+CADICAL = '#!/bin/sh\nfor proof; do :; done\nproof=${proof#--proof=}\n[ "$proof" != - ] || proof=/dev/stdout\nprintf "1 0\\n0\\n" > "$proof"\nexit 20\n'
+
+
+# Two circuits of one gate, which are equal, and a proof that they are.
+CIRCUIT = b"aig 3 2 0 1 1\n6\n\x02\x02"
+SAME = b"-5 0\n4 0\n3 0\n2 0\n0\n"
+
+
+# A row of `checked_all`: the refuted formula, and no more.
+ROW = {
+    "formula": "formula.cnf",
+    "solver": ["cadical"],
+    "options": [],
+    "limit": None,
+    "outcome": "s VERIFIED UNSAT",
+    "reason": "",
+    "status": 20,
+    "seconds": 0.1,
+    "processor": 0.1,
+    "memory": 20000000,
+    "sums": [{"of": "formula", "file": "formula.cnf", "sha256": hashlib.sha256(REFUTED).hexdigest()}],
+}
 
 
 def examples(document):
@@ -62,17 +88,34 @@ def furnish(room, program):
         "formula.cnf": formula,
         "formula.cnf.xz": lzma.compress(formula),
         "proof.drat": DRAT,
+        "proof.drat.xz": lzma.compress(DRAT),
         "proof.lrat": LRAT,
         "proof.bytes": PROOF_BYTES,
         "answer": ANSWER,
+        "claims.cnf": b"p cnf 2 1\n2 0\n",
+        "before.aig": CIRCUIT,
+        "after.aig": CIRCUIT,
+        "same.drat": SAME,
+        "core.cnf": REFUTED,
+        "core.drat": DRAT,
+        "models": b"-1 -2 0\n-1 2 0\n1 -2 0\n1 2 0\n",
         "cubes.txt": b"1 0\n-1 0\n",
         **{f"parts/{part}.drat": b"0\n" for part in ("1", "2", "closing")},
         "pieces/1.drat": DRAT,
         "pieces/count": b"1\n",
+        "session.icnf": ICNF,
+        "session.idrup": IDRUP,
+        "recorded/sessions.index": b"it.7.1\n",
+        "recorded/it.7.1.icnf": ICNF,
+        "recorded/it.7.1.idrup": IDRUP,
+        "formulas/1.cnf": REFUTED,
         "bin/written": written,
-        "bin/solver": b'#!/bin/sh\nexec cat "$(dirname "$0")/written"\n',
+        "bin/solver": CADICAL.encode() if program == "checked" else b'#!/bin/sh\nexec cat "$(dirname "$0")/written"\n',
         "bin/cadical": CADICAL.encode(),
     }
+    if program == "checked_all":
+        row = {**ROW, "row": hashlib.sha256(json.dumps(ROW).encode()).hexdigest()}
+        files["results.json"] = json.dumps(row).encode() + b"\n"
     for name, content in files.items():
         path = os.path.join(room, name)
         os.makedirs(os.path.dirname(path), exist_ok=True)
@@ -91,7 +134,8 @@ def wrong_calls(program, programs):
             furnish(room, program)
             path = os.pathsep.join((os.path.join(room, "bin"), os.path.abspath(programs), os.environ["PATH"]))
             run = subprocess.run(["bash", "-c", call], cwd=room, env={**os.environ, "PATH": path}, capture_output=True, text=True)
-            well = run.returncode == (20 if call.startswith("checked") and "||" not in call else 0)
+            refuted = call.startswith(("checked ", "verified ")) and "--want" not in call or "| follows_check " in call
+            well = run.returncode == (20 if refuted else 0)
             if not well or (run.stderr and "RUST_LOG" not in call):
                 wrong += 1
                 print(f"{program} --help: {call}: status {run.returncode}\n{run.stdout}{run.stderr}", end="")

@@ -13,25 +13,25 @@ What a document can say of files, and how it is written:
     ```rust path                        a quotation: these words are there one after the other
 
 Of each crate of `crates.txt` something is said, except of programs and of tests. The README has each program as it says that it is
-called. There is one version. Words over which readers of technical English stumble are not used, nor in comments of sources,
-definitions and proofs.
+called. There is one version. Words over which readers of technical English stumble are not used, in documents and in what programs
+say of themselves; fewer are checked in comments of sources, definitions and proofs.
 """
 
 import os
 import re
 import sys
 
+from links import bad_links
+from programs import source_texts, tool_texts
 from sources import calls, cited, contracts, crates, laws, lines_of, listed, text_of
 
-LINK = re.compile(r"\]\(([^)#:\s]*)(#[^)\s]*)?\)")
-FOLDERS = ("benches", "bindings", "crates", "docs", "tests", "tools")
+FOLDERS = ("benches", "bindings", "crates", "docs", "packaging", "tests", "tools")
 NAMED = re.compile(r"`((?:%s)/[\w./-]+)`" % "|".join(FOLDERS))
 PLACEHOLDER = re.compile(r"NAME|CRATE|SUBJECT|MODULE|/out/")
 LINES = re.compile(r"`([\w./-]+)` \((\d+) lines\)")
 CITED = re.compile(r"`([\w./-]+\.antt)` with all that it cites \((\d+) files, (\d+) lines\)")
 DECLARED = re.compile(r"`([\w./-]+\.(?:antt|rt))`: (`\w+`(?:, `\w+`)*)")
 QUOTED = re.compile(r"^```\w+ (\S+/\S+)\n(.*?)^```$", re.MULTILINE | re.DOTALL)
-HEADING = re.compile(r"^#+ (.*)$", re.MULTILINE)
 LAWS = re.compile(r"\b[Ll]aws? (`\w+`(?:(?:,| and) `\w+`)*)")
 CONTRACT = re.compile(r"((?:`[\w:]+`(?:, | and )?)+)(?: of [^:|;]*)?: ((?:`\w+`(?: \([^)]*\))?(?:, | and )?)+)")
 CRATES_PAGE = "docs/reference/ARCHITECTURE.md"
@@ -45,21 +45,40 @@ PLAIN = {
     "comes of it": "follows",
 }
 PLAIN_COMMENTS = {**PLAIN, "so many": "this many, how many"}
-
-
-def anchors(path):
-    """The parts of a document, as links name them."""
-    kept = (re.sub(r"[^\w\- ]", "", heading.lower()) for heading in HEADING.findall(text_of(path)))
-    return {"#" + heading.replace(" ", "-") for heading in kept}
-
-
-def bad_links(document, text):
-    for link, part in LINK.findall(text):
-        path = os.path.normpath(os.path.join(os.path.dirname(document), link)) if link else document
-        if not os.path.exists(path):
-            yield f"a link to {link}, which is not there"
-        elif part and part not in anchors(path):
-            yield f"a link to {link}{part}: no heading has that name"
+PLAIN_DOCUMENTS = {
+    **PLAIN,
+    "besides": "also, in addition",
+    "be it": "perhaps",
+    "has to": "must",
+    "(?:is|are) so(?=[,;:.])": "holds, is true",
+    "(?:is|are) told": "is detected, reported, returned",
+    "tells": "detects, reports",
+    "(?:is|are) wanted": "is asked for, is a target",
+    "lies? about": "mismatch",
+    "goes through": "propagates, passes",
+    "nothing rests on": "no verdict relies on",
+    "taken away": "removed",
+    "written over": "overwritten",
+    "set aside": "not proved",
+    "to be read first": "read first",
+    "way out": "exit",
+    "is said": "says, states",
+    r"(?<![\w,`)] )(?:proved|trusted|tested) are": "a sentence with its subject first",
+}
+PLAIN_PROGRAMS = {
+    **PLAIN,
+    "besides": "also, in addition",
+    "be it": "perhaps",
+    "(?:is|are) so(?=[,;:.])": "holds, is true",
+    "(?:is|are) told": "is detected, reported, returned",
+    "lies? about": "mismatch",
+    "taken away": "removed",
+    "takes no part": "is not used",
+    "comes again": "is repeated",
+    "says (?:how|nothing|twice|of which)": "print, show",
+    "(?:a|its) first bytes tell": "is detected",
+    r"groups?\b(?! of)": "candidate",
+}
 
 
 def bad_names(text):
@@ -110,19 +129,26 @@ def bad_tables(text):
             yield f"a row of another length than its table: {line[:60]}"
 
 
-def bad_words(text, plain_words=PLAIN):
+def bad_words(text, plain_words):
     for words, plain in plain_words.items():
-        if re.search(r"\b%s\b" % words, text, re.IGNORECASE):
-            yield f'"{words}": say "{plain}"'
+        if found := re.search(r"\b%s\b" % words, text, re.IGNORECASE):
+            yield f'"{found[0]}": say "{plain}"'
 
 
 def bad_comments():
-    """What the comments of sources, definitions and proofs say, by the same words."""
+    """What the comments of sources, definitions and proofs say, by `PLAIN_COMMENTS`."""
     for path in listed("crates/*.rt") + listed("crates/*.antt"):
         for line, text in enumerate(text_of(path).splitlines(), 1):
             if text.lstrip().startswith(("//", "--")):
                 for fault in bad_words(text, PLAIN_COMMENTS):
                     yield f"{path}:{line}: {fault}"
+
+
+def bad_programs():
+    """What programs say of themselves, by `PLAIN_PROGRAMS`."""
+    for place, text in [*source_texts(), *tool_texts()]:
+        for fault in bad_words(text, PLAIN_PROGRAMS):
+            yield f"{place}: {fault}: {text[:60]}"
 
 
 def columns(text, head):
@@ -193,7 +219,7 @@ def faults(document, known_laws, known_contracts):
     yield from bad_counts(text)
     yield from bad_quotations(text)
     yield from bad_tables(text)
-    yield from bad_words(text)
+    yield from bad_words(text, PLAIN_DOCUMENTS)
     yield from bad_laws(text, known_laws)
     yield from bad_contracts(text, *known_contracts)
 
@@ -206,7 +232,7 @@ def main():
         for document in documents
         for fault in faults(document, known_laws, known_contracts)
     ]
-    found += [*bad_crates(), *bad_calls(), *bad_versions(), *bad_comments()]
+    found += [*bad_crates(), *bad_calls(), *bad_versions(), *bad_comments(), *bad_programs()]
     print(*found, sep="\n", end="\n" if found else "")
     return 1 if found else 0
 

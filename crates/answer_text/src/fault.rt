@@ -1,4 +1,4 @@
-//! Why an answer is not taken.
+//! Why an answer is rejected.
 ghost use Rattle.std.specs.Prelude.{◌≡◌, ◌≢◌};
 ghost use Rattle.std.specs.IoError.{error_kind};
 ghost use Rattle.answer_text.specs.Reading.{fault_of};
@@ -12,7 +12,7 @@ use thiserror::Error;
 /// What is wrong with an answer.
 #[derive(Clone, Copy, Debug, PartialEq, Eq, Error)]
 pub enum AnswerKind {
-    /// A line that is none of an answer's, or a word in it that is none of this line's.
+    /// A line of a kind that no answer has, or a word that its kind of line does not have.
     #[error("malformed")]
     Malformed,
     /// A variable above `Var::MAX_COUNT`.
@@ -36,7 +36,7 @@ pub enum AnswerKind {
     /// The text ends before the 0 that ends the literals.
     #[error("the answer ends before its last 0")]
     Unfinished,
-    /// The literals stand in `v` lines, and there is no `s SATISFIABLE`.
+    /// The literals are in `v` lines, and there is no `s SATISFIABLE`.
     #[error("no status line")]
     NoStatus,
 }
@@ -47,7 +47,7 @@ pub enum AnswerFault {
     /// A read failed, or the answer is longer than any that is read.
     #[error("error reading answer: {0}")]
     Read(io::Error),
-    /// The first fault of the text, and the line in which it stands; lines count from 1.
+    /// The first fault of the text, and its line; lines count from 1.
     #[error("line {line}: {kind}")]
     Wrong { line: u64, kind: AnswerKind },
     /// There was no memory for a literal or for the bytes read ahead.
@@ -83,8 +83,8 @@ impl From<Stop> for AnswerFault {
 }
 
 impl AnswerFault {
-    /// The fault of an answer whose bytes could not be read before it: no memory for them, by the
-    /// error's kind, or a failed read.
+    /// Returns the fault of an answer whose bytes could not be read before it: no memory for them,
+    /// by the error's kind, or a failed read.
     pub fn of_error(error: io::Error) -> AnswerFault
         ensures memory { error_kind error ≡ ErrorKind.OutOfMemory
             → result ≡ AnswerFault.OutOfMemory }

@@ -11,12 +11,12 @@ const MARKS_EACH: usize = 16;
 
 /// The literals that an answer lists.
 ///
-/// Of most answers each literal is marked by its code. A literal of a large variable in a short
-/// answer stands in a set, so that the memory is that of the literals listed, whatever their
+/// The literals of most answers are marked by their codes. A literal of a large variable in a short
+/// answer is in a set, so that the memory used is that of the literals listed, whatever their
 /// numbers.
 #[derive(Drop)]
 pub struct Literals {
-    /// By the code, whether the literal is listed. Of others `far` tells.
+    /// By the code, whether the literal is listed. The others are in `far`.
     marks: Vec<bool>,
     /// The codes of literals that are not marked.
     far: HashSet<usize>,
@@ -29,7 +29,7 @@ pub struct Literals {
 impl Literals {
     ghost use Rattle.answer_text.specs.Literals.{Adds, HasThe, has_lit, is_met};
 
-    /// None. It takes no memory yet.
+    /// Returns an empty set of literals. Allocates no memory.
     pub(crate) fn new(alloc: Global) -> Literals
         ensures { HasThe [] result }
     {
@@ -75,7 +75,7 @@ impl Literals {
         }
     }
 
-    /// Whether the literal is listed.
+    /// Returns whether the literal is listed.
     #[inline(always)]
     pub fn contains(&self, lit: Lit) -> bool
         ensures { result ≡ has_lit self.now lit }
@@ -87,7 +87,7 @@ impl Literals {
         self.has_far && self.far.contains(&code)
     }
 
-    /// Whether a literal of the clause is listed.
+    /// Returns whether a literal of the clause is listed.
     pub fn meets(&self, clause: &[Lit]) -> bool
         ensures { result ≡ is_met (has_lit self.now) clause.now }
     {

@@ -11,14 +11,17 @@ use sat_formula::source::{NoByte, Source};
 use std::alloc::Global;
 use std::io::Read;
 
-/// Reads an answer whole: the literals that it lists, or its first fault.
+/// Reads a whole answer of a solver and returns the literals that it lists.
 ///
-/// A line that begins with `c` says nothing. Other lines are a status, `s` and `SATISFIABLE`, or
-/// have numbers, after a `v` or not; the literals go up to the first 0, after which no number
-/// stands. Where a line begins with `v` there is one status line. Space, tab and CR are blanks.
+/// A line that begins with `c` is a comment. Other lines are a status, `s` and `SATISFIABLE`, or
+/// have numbers, after a `v` or not; the literals end with the first 0, and no number follows it.
+/// If a line begins with `v`, there is one status line. Space, tab and CR are blanks. No two
+/// literals may be opposite.
 ///
-/// No two literals may be opposite. A read that fails is not tried again. Of an answer at most
-/// `u64::MAX` bytes are taken; where more would be, it is as if a read had failed.
+/// # Errors
+///
+/// `Wrong` with the first fault of the text, `Read` if a read failed, which is not retried, or the
+/// answer has more than `u64::MAX` bytes, or `OutOfMemory`.
 pub fn read_answer<R: Read + Drop>(alloc: Global, answer: R) -> Result<Literals, AnswerFault>
     ensures lists { IfOk result (ListsThe (R.remaining answer)) }
     ensures fault { IfErr result (FailsBy (R.remaining answer)) }
@@ -36,7 +39,7 @@ pub fn read_answer<R: Read + Drop>(alloc: Global, answer: R) -> Result<Literals,
     }
 }
 
-/// Takes a byte: where the reading stands after it.
+/// Takes a byte and returns the state after it.
 #[inline(always)]
 fn take(literals: &mut Literals, spot: Spot, byte: u8) -> Result<Spot, Stop>
     ensures { (lits : List ℕ) → HasThe lits literals.old
@@ -70,7 +73,7 @@ fn end(mut literals: Literals, spot: Spot) -> Result<Literals, Stop>
     Ok(literals)
 }
 
-/// A fault on the line where the reading stands.
+/// Returns a fault on the present line.
 fn wrong(spot: Spot, kind: AnswerKind) -> Stop
     ensures { result ≡ Stop.Wrong spot.line kind }
 {

@@ -1,4 +1,4 @@
-//! Where the reading of an answer stands, and what a byte does there.
+//! The state of the parser of answers, and what a byte does in it.
 ghost use Rattle.std.specs.Prelude.{◌≡◌, ◌≤◌, length};
 ghost use Rattle.answer_text.specs.Places.{after, before_word, between, first_digit, in_digits, in_word, is_spelled, line_start, moved, next_line, number_read, passed, satisfiable_read, start, status_read, text_start, turns, word_of};
 
@@ -19,7 +19,7 @@ pub(crate) enum Status {
     Unsat,
 }
 
-/// A place in a line.
+/// A position in a line.
 #[derive(Clone, Copy)]
 pub(crate) enum Place {
     LineStart,
@@ -37,7 +37,7 @@ pub(crate) enum Place {
     Digits(bool, u64),
 }
 
-/// Where the reading stands.
+/// The state of the parser.
 #[derive(Clone, Copy)]
 pub(crate) struct Spot {
     /// Its number; it stays at `u64::MAX`.
@@ -75,7 +75,7 @@ impl Status {
 }
 
 impl Spot {
-    /// The start of a text.
+    /// Returns the start of a text.
     pub(crate) fn start() -> Spot
         ensures { result ≡ start }
     {
@@ -88,7 +88,7 @@ impl Spot {
         }
     }
 
-    /// What the next byte does.
+    /// Returns what the next byte does: the state after it, a literal that it ends, or a fault.
     #[inline(always)]
     #[tactic(auto, unfolding(crate::specs::Places::after))]
     pub(crate) fn after(self, byte: u8) -> After
@@ -126,7 +126,7 @@ impl Spot {
         }
     }
 
-    /// Where a blank or an LF after a word leads.
+    /// Returns the state after a blank or an LF that ends a word.
     fn passed(self, byte: u8) -> Spot
         ensures { result ≡ passed self byte }
     {
@@ -268,7 +268,7 @@ impl Spot {
     }
 }
 
-/// Whether the byte is the next one of a word, of which this many were read.
+/// Returns whether the byte is the next one of a word, of which this many were read.
 fn is_spelled(status: Status, read: usize, byte: u8) -> bool
     ensures { result ≡ is_spelled status read byte }
 {
@@ -276,7 +276,7 @@ fn is_spelled(status: Status, read: usize, byte: u8) -> bool
     read < word.len() && word[read] == byte
 }
 
-/// Whether a word that began as `UNSATISFIABLE` is `UNKNOWN` by this byte.
+/// Returns whether a word that began as `UNSATISFIABLE` is `UNKNOWN` by this byte.
 fn turns(status: Status, read: usize, byte: u8) -> bool
     ensures { result ≡ turns status read byte }
 {

@@ -24,19 +24,19 @@ use std::alloc::Global;
 use std::cell::Cell;
 use std::io::sink;
 
-/// What a check of a DRAT or FRAT proof is told, and asked beside its verdict.
+/// The options of a check of a DRAT or FRAT proof.
 #[repr(C)]
 #[derive(Clone, Copy)]
 pub struct DratOptions {
-    /// 0 where the first bytes of the proof tell its format, 1 DRAT, 2 FRAT, 3 LPR.
+    /// 0 to detect the format from the first bytes of the proof, 1 DRAT, 2 FRAT, 3 LPR.
     pub format: u8,
-    /// Whether the lines of the LRAT proof are wanted.
+    /// Whether to return the lines of the LRAT proof.
     pub lrat: bool,
-    /// Whether the clauses of the formula that they use are wanted.
+    /// Whether to return the clauses of the formula that they use.
     pub core: bool,
 }
 
-/// What a check of a DRAT or FRAT proof answers.
+/// The result of a check of a DRAT or FRAT proof.
 #[repr(C)]
 #[derive(Clone, Copy)]
 pub struct DratAnswer {
@@ -51,11 +51,11 @@ pub struct DratAnswer {
     pub text: Placed,
 }
 
-/// Checks a DRAT or FRAT proof against a DIMACS text. Where the status is 0, no assignment
-/// satisfies the clauses of the formula's text.
+/// Checks a DRAT or FRAT proof against a DIMACS text. If the status is 0, no assignment satisfies
+/// the clauses of the formula's text.
 ///
-/// Then `lrat` and `core` get what is wanted beside that, each as much as it has room for; else
-/// they stay as they are. `text` gets a fault's text, and nothing beside a verdict.
+/// Then `lrat` and `core` get what the options ask for, each as much as fits; else they are
+/// unchanged. `text` gets the text of a fault, and nothing with a verdict.
 #[unsafe(no_mangle)]
 pub extern "C" fn cefindrato_drat_check(
     alloc: Global,
@@ -96,7 +96,7 @@ pub extern "C" fn cefindrato_drat_check(
     answer_to(alloc, &outcome, options, outputs, lrat, core, text)
 }
 
-/// What is answered to a run, and put into the rooms.
+/// Returns the result of a run, and fills the caller's buffers.
 fn answer_to(
     alloc: Global,
     outcome: &Result<Verdict, RunFault>,
@@ -130,7 +130,7 @@ fn answer_to(
     }
 }
 
-/// An answer with no line and no clause.
+/// Returns a result with no line and no clause.
 fn unproved(status: u8, lrat: &mut [u8], core: &mut [u8], text: Placed) -> DratAnswer
     ensures status { result.status ≡ status }
     ensures lrat { IsNothing lrat.old lrat.new result.lrat }
@@ -145,7 +145,7 @@ fn unproved(status: u8, lrat: &mut [u8], core: &mut [u8], text: Placed) -> DratA
     }
 }
 
-/// The format of this number.
+/// Returns the format of this number.
 fn format_of(number: u8) -> Option<ProofFormat>
     ensures { result ≡ format_of number }
 {
@@ -158,14 +158,14 @@ fn format_of(number: u8) -> Option<ProofFormat>
     }
 }
 
-/// An empty output, where it is wanted.
+/// Returns an empty output, if `wanted`.
 fn output(alloc: Global, wanted: bool) -> Option<Vec<u8>>
     ensures { wanted ≡ true → IsSomeAnd result (λ bytes. bytes.items ≡ []) }
 {
     if wanted { Some(Vec::new(alloc)) } else { None }
 }
 
-/// The status of a run.
+/// Returns the status of a run.
 fn status(outcome: &Result<Verdict, RunFault>) -> u8
     ensures { result ≡ drat_status outcome.now }
 {

@@ -15,7 +15,7 @@ use sat_formula::DimacsFault;
 use std::alloc::Global;
 use std::io::sink;
 
-/// What a check of an LRAT proof answers.
+/// The result of a check of an LRAT proof.
 #[repr(C)]
 #[derive(Clone, Copy)]
 pub struct LratAnswer {
@@ -25,10 +25,10 @@ pub struct LratAnswer {
     pub text: Placed,
 }
 
-/// Checks an LRAT proof, text or binary, against a DIMACS text. Where the status is 0, no
-/// assignment satisfies the clauses of the formula's text.
+/// Checks an LRAT proof, text or binary, against a DIMACS text. If the status is 0, no assignment
+/// satisfies the clauses of the formula's text.
 ///
-/// `text` gets a fault's text, and nothing beside a verdict.
+/// `text` gets the text of a fault, and nothing with a verdict.
 #[unsafe(no_mangle)]
 pub extern "C" fn cefindrato_lrat_check(
     alloc: Global,
@@ -49,7 +49,7 @@ pub extern "C" fn cefindrato_lrat_check(
     }
 }
 
-/// The status of a run.
+/// Returns the status of a run.
 fn status(outcome: &Result<Verdict, RunFault>) -> u8
     ensures { result ≡ lrat_status outcome.now }
 {

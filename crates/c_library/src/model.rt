@@ -16,7 +16,7 @@ use sat_formula::DimacsFault;
 use std::alloc::Global;
 use std::io::sink;
 
-/// What a check of a solver's answer answers.
+/// The result of a check of a solver's answer.
 #[repr(C)]
 #[derive(Clone, Copy)]
 pub struct ModelAnswer {
@@ -24,17 +24,17 @@ pub struct ModelAnswer {
     pub status: u8,
     /// A fault's text.
     pub text: Placed,
-    /// Where it is not verified, the number of the first clause that has no literal of the answer;
+    /// If it is not verified, the number of the first clause that has no literal of the answer;
     /// else 0.
     pub clause: u64,
     /// The line on which that clause ends, or 0.
     pub line: u64,
 }
 
-/// Checks a solver's answer against a DIMACS text. Where the status is 0, each assignment that
-/// agrees with the answer satisfies the formula, and there is one.
+/// Checks a solver's answer against a DIMACS text. If the status is 0, each assignment that agrees
+/// with the answer satisfies the formula, and there is one.
 ///
-/// `text` gets a fault's text, and nothing beside a verdict.
+/// `text` gets the text of a fault, and nothing with a verdict.
 #[unsafe(no_mangle)]
 pub extern "C" fn cefindrato_model_check(
     alloc: Global,
@@ -59,7 +59,7 @@ pub extern "C" fn cefindrato_model_check(
     }
 }
 
-/// The clause that is not met and its line, or 0 and 0.
+/// Returns the number of the first clause that is not satisfied, and its line; or 0 and 0.
 fn unmet(outcome: &Result<Verdict, RunFault>) -> (u64, u64)
     ensures clause { result.0 ≡ clause_of outcome.now }
     ensures line { result.1 ≡ line_of outcome.now }
@@ -70,7 +70,7 @@ fn unmet(outcome: &Result<Verdict, RunFault>) -> (u64, u64)
     }
 }
 
-/// The status of a run.
+/// Returns the status of a run.
 fn status(outcome: &Result<Verdict, RunFault>) -> u8
     ensures { result ≡ model_status outcome.now }
 {

@@ -5,17 +5,17 @@ ghost use Rattle.c_library.specs.Rooms.{IsNothing, IsPlaced};
 use std::alloc::Global;
 use std::fmt::Display;
 
-/// How much of a text was put at the start of a room.
+/// How much of a text was copied to the start of a buffer.
 #[repr(C)]
 #[derive(Clone, Copy)]
 pub struct Placed {
-    /// The bytes that were put: those of the text, or as many as there was room for.
+    /// The bytes that were copied: those of the text, or as many as fit.
     pub len: usize,
     /// The bytes of the text.
     pub whole: usize,
 }
 
-/// Puts the beginning of a text at the start of a room.
+/// Copies the beginning of a text to the start of a buffer, and returns how much was copied.
 pub(crate) fn place(text: &[u8], room: &mut [u8]) -> Placed
     ensures { IsPlaced text.now room.old room.new result }
 {
@@ -27,7 +27,7 @@ pub(crate) fn place(text: &[u8], room: &mut [u8]) -> Placed
     }
 }
 
-/// Puts nothing.
+/// Returns the result of an empty text.
 pub(crate) fn place_nothing(room: &mut [u8]) -> Placed
     ensures nothing { IsNothing room.old room.new result }
     ensures empty { IsPlaced [] room.old room.new result }
@@ -35,7 +35,7 @@ pub(crate) fn place_nothing(room: &mut [u8]) -> Placed
     place(b"", room)
 }
 
-/// Puts the text of a run's fault, and nothing beside a verdict.
+/// Copies the text of a run's fault, and nothing for a verdict. Returns how much was copied.
 pub(crate) fn place_text<V, F: Display>(
     alloc: Global,
     outcome: &Result<V, F>,
@@ -50,7 +50,7 @@ pub(crate) fn place_text<V, F: Display>(
     }
 }
 
-/// Puts the text of a fault, or that there was no memory for it.
+/// Copies the text of a fault, or that there was no memory for it. Returns how much was copied.
 pub(crate) fn place_fault<F: Display>(alloc: Global, fault: &F, room: &mut [u8]) -> Placed
     ensures { (text : List ℕ) × IsPlaced text room.old room.new result }
 {
@@ -60,7 +60,7 @@ pub(crate) fn place_fault<F: Display>(alloc: Global, fault: &F, room: &mut [u8])
     }
 }
 
-/// Puts a text where it is wanted and there is one.
+/// Copies a text if `wanted` and there is one. Returns how much was copied.
 pub(crate) fn place_wanted(wanted: bool, text: &Option<Vec<u8>>, room: &mut [u8]) -> Placed
     ensures wanted { wanted ≡ true
         → IfSome text.now (λ bytes. IsPlaced bytes.items room.old room.new result) }

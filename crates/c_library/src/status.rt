@@ -1,5 +1,5 @@
 //! Statuses of calls.
-/// A text is refused.
+/// A text is rejected.
 pub(crate) const FAULT: u8 = 1;
 
 /// The call is none: nothing was looked at.

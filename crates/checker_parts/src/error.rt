@@ -1,4 +1,4 @@
-//! Why the checker refuses or fails.
+//! Why the checker rejects or fails.
 ghost use Rattle.std.specs.Prelude.{◌≡◌};
 ghost use Rattle.checker_parts.specs.declared.error.StepFault.TheVariants.{OutOfMemory};
 
@@ -8,7 +8,7 @@ use std::alloc::AllocError;
 use std::io;
 use thiserror::Error;
 
-/// Why a step or an input clause is refused.
+/// Why a step or an input clause is rejected.
 #[derive(Clone, Copy, Debug, PartialEq, Eq, Error)]
 pub enum CheckCause {
     #[error("variable is not a sampling variable")]
@@ -71,7 +71,7 @@ pub enum CheckCause {
     StepsExhausted,
 }
 
-/// What a call of the checker answers in place of Ok.
+/// Why a call of the checker failed.
 #[derive(Debug, Drop, Error)]
 pub enum CheckerError {
     /// The proof's text ended before the step `End`.
@@ -91,21 +91,21 @@ pub enum CheckerError {
         step: u64,
         cause: MalformedStep,
     },
-    /// A step was refused. `debug_step` shows a refused proof step; it is empty for refusals of
-    /// input clauses, of the steps `UserVarName` and `Assumptions`, of a closing conflict and
-    /// of a step without a number, and where its memory was refused.
+    /// A step was rejected. `debug_step` shows a rejected proof step. It is empty for input
+    /// clauses, for the steps `UserVarName` and `Assumptions`, for a closing conflict, for a step
+    /// without a number, and if there was no memory for it.
     #[error("step {step}: Checking proof failed: {msg}")]
     CheckFailed {
         step: u64,
         msg: CheckCause,
         debug_step: String,
     },
-    /// A processor answered a fault: the checker has failed.
+    /// A processor returned an error: the checker has failed.
     #[error("Error in proof processor: {cause}")]
     ProofProcessorError {
         cause: anyhow::Error,
     },
-    /// A growth was refused: the checker has failed, except after a refused registration.
+    /// An allocation failed: the checker has failed, except after a failed registration.
     #[error("out of memory")]
     OutOfMemory,
     /// The checker had failed before the call, which did nothing.
@@ -113,15 +113,15 @@ pub enum CheckerError {
     Failed,
 }
 
-/// Why a step is not taken. It is small, since every step answers it: the error is made of it where
-/// the call ends.
+/// Why a step is not accepted. It is small, since every step returns it; the error is made of it
+/// where the call ends.
 #[derive(Clone, Copy, Debug, PartialEq, Eq)]
 pub enum StepFault {
-    /// The step is refused.
+    /// The step is rejected.
     Refused(CheckCause),
-    /// A processor or a transcript answered a fault.
+    /// A processor or a transcript returned an error.
     Processor,
-    /// A growth was refused.
+    /// An allocation failed.
     OutOfMemory,
 }
 
@@ -142,7 +142,7 @@ pub enum DimacsError {
     /// The text's first fault, and its line.
     #[error("line {line}: {kind}")]
     Malformed { line: u64, kind: DimacsKind },
-    /// The checker's own answer, or that the reader was out of memory.
+    /// The checker's own error, or that the reader was out of memory.
     #[error("{0}")]
     Checker(CheckerError),
 }

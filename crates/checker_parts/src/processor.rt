@@ -9,14 +9,13 @@ use crate::step::{CheckedProofStep, ProofTranscriptStep};
 use crate::variables::{SamplingMode, Variables};
 use sat_formula::lit::Var;
 
-/// What a processor may read beside a step: the known variables with the names that are shown with
-/// the step.
+/// What a processor may read in addition to a step: the known variables and their names.
 #[derive(Clone, Copy)]
 pub struct CheckerData<'a>(pub &'a Variables);
 
 impl<'a> CheckerData<'a> {
-    /// The user variable of a variable: its explicit name; else the variable itself, if it is known
-    /// and in mode `Sample`. It can be the explicit name of another variable.
+    /// Returns the user variable of a variable: its explicit name; else the variable itself, if it
+    /// is known and in mode `Sample`; else `None`. It can be the explicit name of another variable.
     pub fn user_from_proof_var(self, proof_var: Var) -> Option<Var>
         ensures { indexes_of result ≡ user_of self.entry.0.now (index_of proof_var) }
     {
@@ -38,17 +37,21 @@ pub trait ProofProcessor: Drop {
     ghost use Rattle.checker_rules.specs.CheckedSteps.{NamedStep};
     ghost use Rattle.checker_parts.specs.CheckedSteps.{told};
 
-    /// What holds of the old value, the step with its names, and the new value where the answer is
-    /// Ok.
+    /// What holds of the old value, the step with its names, and the new value if the result is
+    /// `Ok`.
     ghost took: { Self → NamedStep → Self → Type 0 };
 
-    /// What holds of the old value, the step and the new value where the answer is a fault.
+    /// What holds of the old value, the step and the new value if the result is an error.
     ghost faulted: { Self → NamedStep → Self → Type 0 };
 
     /// What `output` gives.
     ghost shown: { Self → List ℕ };
 
-    /// Takes one step. A fault fails the checker.
+    /// Takes one step.
+    ///
+    /// # Errors
+    ///
+    /// Any error of the processor. The checker that delivered the step then has failed.
     fn process_step(
         &mut self,
         step: &CheckedProofStep,
@@ -58,7 +61,7 @@ pub trait ProofProcessor: Drop {
         ensures faulted { OnErr result
             (faulted self.old (told step.now names.entry.0.now) self.new) };
 
-    /// What the processor has to show, as bytes.
+    /// Returns the bytes that the processor has to show.
     fn output(&self) -> &[u8]
         ensures { result.now ≡ shown self.now };
 }
@@ -92,21 +95,25 @@ pub trait ProofTranscriptProcessor: Drop {
     ghost use Rattle.checker_rules.specs.Transcript.{TranscriptStep};
     ghost use Rattle.checker_parts.specs.CheckedSteps.{transcript_of};
 
-    /// What holds of the old value, the step and the new value where the answer is Ok.
+    /// What holds of the old value, the step and the new value if the result is `Ok`.
     ghost took: { Self → TranscriptStep → Self → Type 0 };
 
-    /// What holds of the old value, the step and the new value where the answer is a fault.
+    /// What holds of the old value, the step and the new value if the result is an error.
     ghost faulted: { Self → TranscriptStep → Self → Type 0 };
 
     /// What `output` gives.
     ghost shown: { Self → List ℕ };
 
-    /// Takes one step. A fault fails the checker.
+    /// Takes one step.
+    ///
+    /// # Errors
+    ///
+    /// Any error of the transcript. The checker that delivered the step then has failed.
     fn process_step(&mut self, step: &ProofTranscriptStep) -> Result<(), anyhow::Error>
         ensures took { OnOk result (took self.old (transcript_of step.now) self.new) }
         ensures faulted { OnErr result (faulted self.old (transcript_of step.now) self.new) };
 
-    /// What the processor has to show, as bytes.
+    /// Returns the bytes that the transcript has to show.
     fn output(&self) -> &[u8]
         ensures { result.now ≡ shown self.now };
 }

@@ -9,9 +9,11 @@ use sat_formula::lit::Lit;
 use std::alloc::AllocError;
 use std::cmp::Ordering;
 
-/// Leaves the canonical list of `src` in `target`, and answers whether it is a tautology.
+/// Replaces `target` by the canonical list of `src`, and returns whether that is a tautology.
 ///
-/// What `target` held goes, also where the answer is `Err`.
+/// # Errors
+///
+/// `AllocError` if memory runs out; `target` is empty then.
 pub fn copy_canonical(target: &mut Vec<Lit>, src: &[Lit]) -> Result<bool, AllocError>
     ensures items { OnOk result (target.new.items ≡ canonical src.now) }
     ensures canonical { OnOk result (IsTrue (is_canonical target.new.items)) }
@@ -28,7 +30,8 @@ pub fn copy_canonical(target: &mut Vec<Lit>, src: &[Lit]) -> Result<bool, AllocE
     Ok(has_opposites(target.as_slice()))
 }
 
-/// Whether the variables rise from literal to literal. Such a list is canonical, and no tautology.
+/// Returns whether the variables rise from literal to literal. Such a list is canonical and no
+/// tautology.
 pub fn has_rising_vars(lits: &[Lit]) -> bool
     ensures { result ≡ has_rising_vars lits.now }
 {
@@ -46,7 +49,8 @@ pub fn has_rising_vars(lits: &[Lit]) -> bool
     true
 }
 
-/// Opposite literals of a canonical list are neighbours: their codes differ by 1.
+/// Returns whether a canonical list has opposite literals: they are neighbours, since their codes
+/// differ by 1.
 fn has_opposites(lits: &[Lit]) -> bool
     requires { IsTrue (is_canonical lits.now) }
     ensures { result ≡ is_tautology lits.now }
@@ -63,8 +67,8 @@ fn has_opposites(lits: &[Lit]) -> bool
     false
 }
 
-/// Whether each literal of `subset` is one of `superset`, and where `strict` is true,
-/// some literal of `superset` is not one of `subset`.
+/// Returns whether each literal of `subset` is in `superset`, and, if `strict`, some literal of
+/// `superset` is not in `subset`.
 pub fn is_subset(subset: &[Lit], superset: &[Lit], strict: bool) -> bool
     requires subset { IsTrue (is_canonical subset.now) }
     requires superset { IsTrue (is_canonical superset.now) }

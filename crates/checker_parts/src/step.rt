@@ -1,4 +1,4 @@
-//! What processors and transcripts are told.
+//! What processors and transcripts receive.
 use sat_formula::lit::{Lit, Var};
 
 /// A step of a checked proof.
@@ -18,13 +18,13 @@ pub enum CheckedProofStep<'a> {
         id: u64,
         clause: &'a [Lit],
     },
-    /// An input clause that is stored already. The id stands in no other step.
+    /// An input clause that is stored already. The id is in no other step.
     DuplicatedClause {
         id: u64,
         same_as_id: u64,
         clause: &'a [Lit],
     },
-    /// An input clause that says nothing. The id stands in no other step.
+    /// An input clause that says nothing. The id is in no other step.
     TautologicalClause {
         id: u64,
         clause: &'a [Lit],
@@ -36,20 +36,20 @@ pub enum CheckedProofStep<'a> {
         clause: &'a [Lit],
         propagations: &'a [u64],
     },
-    /// A redundant clause goes.
+    /// A redundant clause is deleted.
     DeleteClause {
         id: u64,
         clause: &'a [Lit],
     },
-    /// An irredundant clause goes, or becomes redundant, that the clause of the one propagation
-    /// implies.
+    /// An irredundant clause that the clause of the one propagation implies is deleted, or becomes
+    /// redundant.
     DeleteAtClause {
         id: u64,
         keep_as_redundant: bool,
         clause: &'a [Lit],
         propagations: &'a [u64],
     },
-    /// The unit of a deleted variable goes.
+    /// The unit of a deleted variable is deleted.
     DeleteRatClause {
         id: u64,
         keep_as_redundant: bool,
@@ -84,7 +84,7 @@ pub enum CheckedSamplingMode {
     Witness,
 }
 
-/// The user name of a variable.
+/// The user name of a variable, as a checked step shows it.
 #[derive(Debug, Drop)]
 pub struct CheckedUserVar {
     pub user_var: Var,
@@ -93,7 +93,7 @@ pub struct CheckedUserVar {
     pub new_var: bool,
 }
 
-/// How resolvents of a deleted clause follow. It says nothing yet.
+/// How resolvents of a deleted clause follow. It is empty so far.
 #[derive(Debug, Drop)]
 pub struct ResolutionPropagations {}
 

@@ -12,25 +12,29 @@ use crate::step::{CheckedProofStep, CheckedSamplingMode, CheckedUserVar, ProofTr
 use sat_formula::lit::{Lit, Var};
 use std::alloc::Global;
 
-/// The list of the step that transcripts are told.
+/// The literals of the step that transcripts receive.
 #[derive(Drop)]
 pub struct Transcript {
     lits: Vec<Lit>,
 }
 
 impl Transcript {
-    /// An empty list, to be filled by each step that has one.
+    /// Returns an empty list, filled by each step that has one. Allocates no memory.
     pub fn new(alloc: Global) -> Transcript {
         Transcript {
             lits: Vec::new(alloc),
         }
     }
 
-    /// What transcripts are told of a checked step: nothing of most kinds.
+    /// Returns what transcripts receive of a checked step, which for most kinds is `None`.
     ///
     /// Literals without a user variable are dropped, and an unnamed variable that loses its name is
-    /// passed over: of input clauses, assumptions and cores, and of removed names, the checker
-    /// hands in none such.
+    /// passed over. The checker passes no such literals in input clauses, assumptions and cores,
+    /// and no such variable.
+    ///
+    /// # Errors
+    ///
+    /// `OutOfMemory` if there is no memory for the literals of the step.
     pub fn transcript_step(
         &mut self,
         step: &CheckedProofStep,
@@ -70,7 +74,7 @@ impl Transcript {
         Ok(told)
     }
 
-    /// The literals of the user variables.
+    /// Returns the literals of the user variables.
     fn map(&mut self, lits: &[Lit], names: CheckerData) -> Result<&[Lit], CheckerError>
         ensures ok { IfOk result (λ told. told.now ≡ mapped names.entry.0.now lits.now) }
         ensures err { IfErr result (λ e. e ≡ OutOfMemory) }
@@ -87,7 +91,7 @@ impl Transcript {
     }
 }
 
-/// What transcripts are told where a variable loses its user name.
+/// Returns what transcripts receive where a variable loses its user name.
 fn hide_step<'a>(var: Var, names: CheckerData) -> Option<ProofTranscriptStep<'a>>
     ensures { transcripts_of result ≡ hides (known_at names.entry.0.now (index_of var)).name }
 {
@@ -97,7 +101,7 @@ fn hide_step<'a>(var: Var, names: CheckerData) -> Option<ProofTranscriptStep<'a>
     }
 }
 
-/// What transcripts are told of a variable that has a user name.
+/// Returns what transcripts receive of a variable that has a user name.
 fn user_var_step<'a>(user_var: &CheckedUserVar) -> Option<ProofTranscriptStep<'a>>
     ensures { transcripts_of result ≡ image_user_var (user_var_of user_var.now) }
 {

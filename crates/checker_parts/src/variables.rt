@@ -18,7 +18,8 @@ pub struct LitData {
     pub clause_count: usize,
 }
 
-/// How a variable stands to the user's formula.
+/// How a variable relates to the user's formula: models give its value as a sample or as a witness,
+/// or it is hidden.
 #[derive(Clone, Copy, PartialEq, Eq)]
 pub enum SamplingMode {
     Sample,
@@ -26,7 +27,7 @@ pub enum SamplingMode {
     Hide,
 }
 
-/// Data for each variable.
+/// The explicit user name of a variable, and its mode.
 #[derive(Clone, Drop)]
 pub struct VarData {
     /// The explicit user name.
@@ -49,7 +50,7 @@ impl Default for VarData {
     }
 }
 
-/// Stands in place of a name's index. No variable has this index.
+/// The index of no name. No variable has it.
 const UNNAMED: u32 = u32::MAX;
 
 /// The known variables, in order of their indexes, in six bytes a variable.
@@ -77,7 +78,7 @@ impl Model for Variables {
 }
 
 impl Variables {
-    /// No variable is known.
+    /// Returns a table without variables. Allocates no memory.
     pub fn new(alloc: Global) -> Variables
         ensures { result ≡ [] }
     {
@@ -88,21 +89,21 @@ impl Variables {
         }
     }
 
-    /// How many variables are known: those of the indexes below.
+    /// Returns how many variables are known: those of smaller indexes.
     pub fn len(&self) -> usize
         ensures { result ≡ length self.now }
     {
         self.names.len()
     }
 
-    /// Whether there is no variable.
+    /// Returns whether no variable is known.
     pub fn is_empty(&self) -> bool
         ensures { result ≡ (length self.now == 0) }
     {
         self.names.is_empty()
     }
 
-    /// Name and mode of a variable. An unknown one is as a new one.
+    /// Returns the name and mode of a variable. An unknown one has those of a new one.
     pub fn get(&self, var: Var) -> VarData
         ensures { known_of_data result ≡ known_at self.now (index_of var) }
     {
@@ -116,13 +117,14 @@ impl Variables {
         }
     }
 
+    /// Returns the user name of the variable of this index.
     fn name(&self, index: usize) -> Option<Var>
         ensures { indexes_of result ≡ (known_at self.now index).name }
     {
         Var::from_index(*self.names.get(index)? as usize)
     }
 
-    /// Whether some variable has this user name.
+    /// Returns whether some variable has this user name.
     pub fn is_taken(&self, user_var: Var) -> bool
         ensures value { result ≡ is_taken self.now (index_of user_var) }
         ensures distinct { AreDistinct self.now }
@@ -134,6 +136,10 @@ impl Variables {
     }
 
     /// Makes the first `count` variables known, new ones unnamed and in mode `Sample`.
+    ///
+    /// # Errors
+    ///
+    /// `AllocError` if memory runs out; nothing is changed.
     pub fn know(&mut self, count: usize) -> Result<(), AllocError>
         ensures ok { OnOk result (self.new
             ≡ self.old ++ replicate (count - length self.old) new_known) }
@@ -168,7 +174,7 @@ impl Variables {
         self.names[var.index()] = name as u32;
     }
 
-    /// Takes the user name, if there is one, from a variable, and hides it.
+    /// Removes the user name of a variable, if it has one, and hides the variable.
     pub fn hide(&mut self, var: Var)
         requires { index_of var < length self.old }
         ensures { self.new ≡ set self.old (index_of var) (record { name = None; mode = hide }) }
@@ -182,7 +188,7 @@ impl Variables {
         }
     }
 
-    /// Gives a variable this sampling mode; its name stays.
+    /// Sets the sampling mode of a variable; its name stays.
     pub fn set_mode(&mut self, var: Var, sampling_mode: SamplingMode)
         requires { index_of var < length self.old }
         ensures { self.new ≡ set self.old (index_of var)

@@ -35,7 +35,12 @@ use proof_bytes::ProofStep;
 use sat_formula::Lit;
 use std::alloc::Global;
 
-/// Adds an input clause.
+/// Adds an input clause. If unsatisfiability is recorded, changes nothing.
+///
+/// # Errors
+///
+/// `CheckFailed` if a variable of the clause was sampled away, or no id or count is left. After
+/// `ProofProcessorError` and `OutOfMemory` the parts are unspecified.
 pub fn add_clause<P: ProofProcessor, T: ProofTranscriptProcessor>(
     alloc: Global,
     ctx: &mut ContextOf<P, T>,
@@ -55,7 +60,12 @@ pub fn add_clause<P: ProofProcessor, T: ProofTranscriptProcessor>(
     ctx.processing.answer(alloc, ctx.checker_state.step, taken)
 }
 
-/// Checks one step. Its callers count it.
+/// Checks one step, which its callers count.
+///
+/// # Errors
+///
+/// `CheckFailed` if the step is rejected. After `ProofProcessorError` and `OutOfMemory` the parts
+/// are unspecified.
 pub fn check_step<P: ProofProcessor, T: ProofTranscriptProcessor>(
     alloc: Global,
     ctx: &mut ContextOf<P, T>,
@@ -119,8 +129,12 @@ fn take_step<P: ProofProcessor, T: ProofTranscriptProcessor>(
     }
 }
 
-/// Counts a step and takes it, up to its fault. Where no step number is left it is refused before
-/// anything of it is looked at.
+/// Counts a step and takes it, up to its fault.
+///
+/// # Errors
+///
+/// `Refused` if the step is rejected, or no step number is left, before anything of the step is
+/// looked at. After `Processor` and `OutOfMemory` the parts are unspecified.
 #[inline(always)]
 pub fn take_counted<P: ProofProcessor, T: ProofTranscriptProcessor>(
     alloc: Global,
@@ -145,8 +159,8 @@ pub fn take_counted<P: ProofProcessor, T: ProofTranscriptProcessor>(
     take_step(alloc, ctx, step)
 }
 
-/// The error of a step's fault at this number. A step that was refused is shown in it, where it was
-/// looked at.
+/// Returns the error of a step's fault at this number. A step that was rejected is shown in it, if
+/// it was looked at.
 #[inline(never)]
 pub fn step_error<P: ProofProcessor, T: ProofTranscriptProcessor>(
     alloc: Global,
@@ -162,7 +176,11 @@ pub fn step_error<P: ProofProcessor, T: ProofTranscriptProcessor>(
     processing.error(number, fault, text)
 }
 
-/// Counts a step and checks it. Where no step number is left it is refused before anything of it is
+/// Counts a step and checks it.
+///
+/// # Errors
+///
+/// As for `check_step`, and `CheckFailed` if no step number is left, before anything of the step is
 /// looked at.
 pub fn attempt_step<P: ProofProcessor, T: ProofTranscriptProcessor>(
     alloc: Global,
@@ -189,8 +207,12 @@ pub fn attempt_step<P: ProofProcessor, T: ProofTranscriptProcessor>(
     }
 }
 
-/// The closing conflict: where a unit conflict is recorded, an id is taken for it, and the empty
-/// clause is handed on.
+/// Closes a conflict as the end of a proof does: if a unit conflict is recorded, takes an id for
+/// the empty clause and delivers it. Allocates nothing.
+///
+/// # Errors
+///
+/// `CheckFailed` if no id is left. After `ProofProcessorError` the parts are unspecified.
 pub fn process_unit_conflicts<P: ProofProcessor, T: ProofTranscriptProcessor>(
     alloc: Global,
     ctx: &mut ContextOf<P, T>,
@@ -235,7 +257,7 @@ fn close_unit_conflict<P: ProofProcessor, T: ProofTranscriptProcessor>(
     }
 }
 
-/// A refusal at the present step, without the text of a step. Takes no memory.
+/// Returns a rejection at the present step, without the text of a step. Takes no memory.
 pub fn refusal(alloc: Global, state: &CheckerState, msg: CheckCause) -> CheckerError
     ensures { IsErrorOf state.now.step (Refused msg) result }
 {
@@ -246,8 +268,8 @@ pub fn refusal(alloc: Global, state: &CheckerState, msg: CheckCause) -> CheckerE
     }
 }
 
-/// The text of a step that is refused, where memory for it is found. Of another fault none is
-/// shown.
+/// Returns the text of a step that is rejected, where memory for it is found. Of another fault none
+/// is shown.
 fn refused_text(alloc: Global, fault: StepFault, refused: &ProofStep) -> String {
     match fault {
         StepFault::Refused(CheckCause::StepsExhausted) => String::new(alloc),
@@ -256,8 +278,8 @@ fn refused_text(alloc: Global, fault: StepFault, refused: &ProofStep) -> String 
     }
 }
 
-/// The text of a step, or none where memory for it was refused. Refused user names and assumptions
-/// show none.
+/// Returns the text of a step, or none where an allocation failed. Rejected user names and
+/// assumptions show none.
 fn step_text(alloc: Global, step: &ProofStep) -> String {
     if let ProofStep::UserVarName { .. } | ProofStep::Assumptions { .. } = step {
         return String::new(alloc);

@@ -26,8 +26,8 @@ impl TmpData {
     ghost use Rattle.sat_rules.specs.Clauses.{is_tautology};
     ghost use Rattle.checker_rules.specs.Canonical.{canonical};
 
-    /// The canonical list of a clause, in the memory that is kept, until it is put back. None of a
-    /// clause with opposite literals.
+    /// Returns the canonical list of a clause, in the memory that is kept, until it is put back.
+    /// None of a clause with opposite literals.
     #[inline(never)]
     pub(crate) fn take_canonical(
         &mut self,
@@ -66,7 +66,7 @@ impl<P: ProofProcessor, T: ProofTranscriptProcessor> ContextOf<P, T> {
     ghost use Rattle.checker_rules.specs.Steps.{new_state};
     ghost use Rattle.checker_steps.specs.Context.{ContextInvariant, context_state};
 
-    /// The parts of a checker with nothing stored. Takes no memory.
+    /// Returns the parts of a checker with nothing stored. Takes no memory.
     pub fn new(alloc: Global) -> ContextOf<P, T>
         ensures state { context_state result ≡ new_state }
         ensures kept { ContextInvariant result }

@@ -1,7 +1,7 @@
-//! Checked steps made and handed on, one function a kind.
+//! Checked steps made and delivered, one function a kind.
 //!
-//! Each makes its step alone: a function above that held one would have to name the types behind
-//! its references. One of these is of no other use here, and is named by a value that nothing
+//! Each makes its own step: a caller that had one would have to name the types behind its
+//! references. One of these types is otherwise unused here, and is named by a value that nothing
 //! reads, `_propagations`: a derived clause refers to it, and all kinds are one type.
 ghost use Rattle.std.specs.Prelude.{◌≢◌, Err, false};
 ghost use Rattle.sat_formula.specs.Vars.{index_of};
@@ -35,7 +35,7 @@ pub(crate) fn emit_add_clause<P: ProofProcessor, T: ProofTranscriptProcessor>(
     processing.step(&step, CheckerData(variables))
 }
 
-/// Delivers an input clause that stands already.
+/// Delivers an input clause that is stored already.
 pub(crate) fn emit_duplicated_clause<P: ProofProcessor, T: ProofTranscriptProcessor>(
     processing: &mut ProcessingOf<P, T>,
     variables: &Variables,
@@ -121,7 +121,7 @@ pub(crate) fn emit_make_irredundant<P: ProofProcessor, T: ProofTranscriptProcess
     processing.step(&step, CheckerData(variables))
 }
 
-/// Delivers a redundant clause that goes.
+/// Delivers the deletion of a redundant clause.
 #[inline(always)]
 pub(crate) fn emit_delete_clause<P: ProofProcessor, T: ProofTranscriptProcessor>(
     processing: &mut ProcessingOf<P, T>,
@@ -140,7 +140,7 @@ pub(crate) fn emit_delete_clause<P: ProofProcessor, T: ProofTranscriptProcessor>
     processing.step(&step, CheckerData(variables))
 }
 
-/// Delivers an irredundant clause that goes or becomes redundant.
+/// Delivers that an irredundant clause is deleted or becomes redundant.
 #[inline(always)]
 pub(crate) fn emit_delete_at_clause<P: ProofProcessor, T: ProofTranscriptProcessor>(
     processing: &mut ProcessingOf<P, T>,

@@ -1,5 +1,5 @@
 //! The steps over the parts of a checker: each kind's effect, and what processors and transcripts
-//! are told of it.
+//! receive.
 #![tactic(auto)]
 
 mod emit;

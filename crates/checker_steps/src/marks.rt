@@ -14,7 +14,7 @@ pub struct Marks {
 }
 
 impl Marks {
-    /// Marks without a place. Takes no memory.
+    /// Returns marks without slots. Allocates no memory.
     pub fn new(alloc: Global) -> Marks
         ensures { result.by_code.items ≡ [] }
     {
@@ -23,7 +23,7 @@ impl Marks {
         }
     }
 
-    /// Makes a place for each literal of a known variable, where there is none yet.
+    /// Makes a slot for each literal of a known variable that has none.
     pub(crate) fn make_places(&mut self, variables: &Variables) -> Result<(), AllocError>
         ensures { OnOk result (HasPlaces self.new.by_code.items variables.now) }
     {

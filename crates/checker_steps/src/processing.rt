@@ -1,4 +1,4 @@
-//! The processors and transcripts that checked steps are handed to.
+//! The processors and transcripts that receive checked steps.
 ghost use Rattle.std.specs.Prelude.{◌≡◌, ◌≢◌, [], Err, IfErr, Ok, OnOk, false};
 ghost use Rattle.checker_rules.specs.Ran.{AllTook, OneFaulted};
 ghost use Rattle.checker_parts.specs.CheckedSteps.{step_of, told, transcript_of};
@@ -21,7 +21,7 @@ pub struct ProcessingOf<P, T> {
     pub processors: Vec<P>,
     pub transcript_processors: Vec<T>,
     transcript: Transcript,
-    /// What a processor or a transcript answered last in place of Ok.
+    /// The last error of a processor or a transcript.
     fault: anyhow::Error,
 }
 
@@ -29,7 +29,7 @@ pub struct ProcessingOf<P, T> {
 pub type Processing = ProcessingOf<Box<dyn ProofProcessor>, Box<dyn ProofTranscriptProcessor>>;
 
 impl<P: ProofProcessor, T: ProofTranscriptProcessor> ProcessingOf<P, T> {
-    /// No processor and no transcript.
+    /// Returns a list without processors and transcripts. Allocates no memory.
     pub fn new(alloc: Global) -> ProcessingOf<P, T>
         ensures processors { result.processors.items ≡ [] }
         ensures transcripts { result.transcript_processors.items ≡ [] }
@@ -45,8 +45,10 @@ impl<P: ProofProcessor, T: ProofTranscriptProcessor> ProcessingOf<P, T> {
     /// Delivers a step to the processors, and then its image to the transcripts, each in order of
     /// registration, up to the first fault.
     ///
-    /// Where memory was refused, nothing is known of what the boxes took. A fault that one answers
-    /// stays here until `error` takes it.
+    /// # Errors
+    ///
+    /// `Processor` if a listener failed, whose error is kept until `error` takes it; `OutOfMemory`
+    /// if there is no memory for the image. What the listeners took is unspecified then.
     #[inline(always)]
     pub fn step(&mut self, step: &CheckedProofStep, names: CheckerData) -> Result<(), StepFault>
         ensures delivers { DeliveredStep result (told step.now names.entry.0.now)
@@ -62,7 +64,7 @@ impl<P: ProofProcessor, T: ProofTranscriptProcessor> ProcessingOf<P, T> {
         }
     }
 
-    /// Tells the step to all that is registered.
+    /// Delivers the step to all listeners.
     #[inline(never)]
     fn deliver(&mut self, step: &CheckedProofStep, names: CheckerData) -> Result<(), StepFault>
         ensures delivers { DeliveredStep result (told step.now names.entry.0.now)
@@ -83,7 +85,8 @@ impl<P: ProofProcessor, T: ProofTranscriptProcessor> ProcessingOf<P, T> {
         }
     }
 
-    /// The answer of a call whose step at this number answered so, without the text of a step.
+    /// Returns the result of a call from that of its step at this number, without the text of a
+    /// step.
     pub(crate) fn answer(
         &mut self,
         alloc: Global,
@@ -100,7 +103,8 @@ impl<P: ProofProcessor, T: ProofTranscriptProcessor> ProcessingOf<P, T> {
         }
     }
 
-    /// The error of a fault at this step number, with the text of the step that is refused.
+    /// Returns the error of a fault at this step number, with the text of the step that is
+    /// rejected.
     pub fn error(&mut self, number: u64, fault: StepFault, debug_step: String) -> CheckerError
         ensures error { IsErrorOf number fault result }
         ensures listeners { listeners_of self.new ≡ listeners_of self.old }
@@ -119,7 +123,11 @@ impl<P: ProofProcessor, T: ProofTranscriptProcessor> ProcessingOf<P, T> {
     }
 }
 
-/// Delivers a step with the names of the variables, as `ProcessingOf::step` does.
+/// Delivers a step with the names of the variables.
+///
+/// # Errors
+///
+/// As for `ProcessingOf::step`.
 #[inline(always)]
 pub fn process_step<P: ProofProcessor, T: ProofTranscriptProcessor>(
     processing: &mut ProcessingOf<P, T>,
@@ -134,7 +142,7 @@ pub fn process_step<P: ProofProcessor, T: ProofTranscriptProcessor>(
     processing.step(step, CheckerData(variables))
 }
 
-/// What stands where no fault was answered.
+/// Returns the value that means that no listener failed.
 fn no_fault() -> anyhow::Error {
     anyhow::Error::msg("no fault")
 }

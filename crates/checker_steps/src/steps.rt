@@ -1,4 +1,4 @@
-//! The kinds of step, one file each. Their rules stand under the same names in the definitions.
+//! The kinds of step, one file each. Their rules have the same names in the definitions.
 pub mod add_clause;
 pub mod assumptions;
 pub mod at_clause;

@@ -20,7 +20,7 @@ use clause_store::clauses::Clauses;
 pub use clause_store::variables::ensure_vars;
 use sat_formula::{Lit, Var};
 
-/// Whether some known variable of the literals is not in mode `Sample`.
+/// Returns whether some known variable of the literals is not in mode `Sample`.
 pub(crate) fn some_not_sampling(variables: &Variables, lits: &[Lit]) -> bool
     ensures { (st : CheckerState) (h : ClauseHasher) (cs : Clauses)
         → result ≡ some_not_sampling (state_of st h cs variables.now) lits.now }
@@ -34,6 +34,10 @@ pub(crate) fn some_not_sampling(variables: &Variables, lits: &[Lit]) -> bool
 }
 
 /// Makes a variable known, and those before it, new ones unnamed and in mode `Sample`.
+///
+/// # Errors
+///
+/// `OutOfMemory`, and no other fault.
 pub fn ensure_var(
     clauses: &mut Clauses,
     variables: &mut Variables,
@@ -48,8 +52,11 @@ pub fn ensure_var(
     Ok(())
 }
 
-/// Makes a variable known as `ensure_var` does, unless it is known and in another mode than
-/// `Sample`.
+/// Makes a variable known as `ensure_var` does.
+///
+/// # Errors
+///
+/// `Refused` if it is known and in another mode than `Sample`, or `OutOfMemory`.
 pub fn ensure_sampling_var(
     clauses: &mut Clauses,
     variables: &mut Variables,
@@ -70,7 +77,12 @@ pub fn ensure_sampling_var(
     ensure_var(clauses, variables, var)
 }
 
-/// Gives a variable a user name, and hands that on with the names after it.
+/// Gives a variable a user name, and delivers that with the names after it.
+///
+/// # Errors
+///
+/// `Refused` if the name is taken or not allowed; `Processor` and `OutOfMemory`, after which the
+/// parts are unspecified.
 pub fn add_user_mapping<P: ProofProcessor, T: ProofTranscriptProcessor>(
     clauses: &mut Clauses,
     variables: &mut Variables,
@@ -105,7 +117,12 @@ pub fn add_user_mapping<P: ProofProcessor, T: ProofTranscriptProcessor>(
     emit_user_var(processing, variables, global, Some(named))
 }
 
-/// Takes the user name from a variable and hides it. That is handed on with the names before it.
+/// Removes the user name of a variable and hides it. Delivers that with the names before it.
+///
+/// # Errors
+///
+/// `Refused` if there is no name to remove; `Processor` and `OutOfMemory`, after which the parts
+/// are unspecified.
 pub fn remove_user_mapping<P: ProofProcessor, T: ProofTranscriptProcessor>(
     clauses: &mut Clauses,
     variables: &mut Variables,
@@ -151,8 +168,8 @@ fn naming_cause(variables: &Variables, global: Var, user_var: Var) -> Option<Che
     None
 }
 
-/// The mode of a variable as it is shown beside the variable's user name. A hidden variable has
-/// none.
+/// Returns the mode of a variable as it is shown beside the variable's user name. A hidden variable
+/// has none.
 pub(crate) fn shown_mode(mode: SamplingMode) -> CheckedSamplingMode
     ensures { samples result ≡ is_sample (mode_of mode) }
 {

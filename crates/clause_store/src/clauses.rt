@@ -26,7 +26,8 @@ use sat_formula::Lit;
 use std::alloc::Global;
 use std::collections::HashMap;
 
-/// A clause of two or more literals, with the number of its copies of either kind.
+/// A clause of two or more literals with its id, and the number of its irredundant and of its
+/// redundant copies.
 #[derive(Clone, Copy)]
 pub struct Clause {
     pub id: u64,
@@ -49,15 +50,17 @@ pub enum StoreClauseResult {
 /// What deleting a copy of a clause did.
 #[derive(Clone, Copy, PartialEq, Eq)]
 pub enum DeleteClauseResult {
-    /// The clause is still stored in that kind, or a redundant copy of several went.
+    /// The clause is still stored in that kind, or one of several redundant copies was removed.
     Unchanged,
-    /// Its last irredundant copy went, and redundant ones remain.
+    /// Its last irredundant copy was removed, and redundant ones remain.
     NewlyRedundant,
-    /// Its last copy went.
+    /// Its last copy was removed.
     Removed,
 }
 
-/// The stored clauses and units.
+/// The stored clauses and units: the next id, the buffer of literals and how many of them are
+/// garbage, the clauses by their hashes, how many clauses each literal has, the units, and the ids
+/// of two opposite units, if there are two.
 #[derive(Drop)]
 pub struct Clauses {
     pub next_clause_id: u64,
@@ -75,7 +78,7 @@ impl Clauses {
     ghost use Rattle.clause_store.specs.Store.{IsStore};
     ghost use Rattle.clause_store.specs.Units as units;
 
-    /// Nothing is stored.
+    /// Returns a store without clauses. Allocates no memory.
     pub fn new(alloc: Global) -> Clauses
         ensures { IsEmptyStore result }
     {
@@ -90,7 +93,8 @@ impl Clauses {
         }
     }
 
-    /// The value of a literal, with what gives its variable one. None for an unknown variable too.
+    /// Returns the value of a literal, with what gives its variable one. None for an unknown
+    /// variable too.
     pub fn lit_value(&self, lit: Lit) -> Option<(bool, UnitClause)>
         ensures { result ≡ units.lit_unit self.now.unit_clauses lit }
     {
@@ -98,7 +102,7 @@ impl Clauses {
         Some((unit.value == lit.is_positive(), unit))
     }
 
-    /// Takes the next id. None where none is left.
+    /// Takes the next id and returns it, or `None` if none is left.
     #[tactic(auto, unfolding(checker_rules::specs::Store::id_limit))]
     pub fn take_id(&mut self) -> Option<u64>
         ensures id { SomeIff result (self.old.next_clause_id < id_limit) self.old.next_clause_id }

@@ -30,7 +30,7 @@ pub struct ClauseHasher {
 impl ClauseHasher {
     ghost use Rattle.clause_store.specs.StateOf.{applied_of, hash_of, pending_of};
 
-    /// Hashes of 64 bits, and no names.
+    /// Returns a hasher of 64 bits without names. Allocates no memory.
     pub fn new(alloc: Global) -> ClauseHasher
         ensures bits { result.hash_bits ≡ 64 }
         ensures names { applied_of result ≡ (λ v. None) }
@@ -43,7 +43,7 @@ impl ClauseHasher {
         }
     }
 
-    /// The hash of a clause.
+    /// Returns the hash of a clause.
     pub fn clause_hash(&self, lits: &[Lit]) -> ClauseHash
         requires some_bits { 0 < self.now.hash_bits }
         requires bits { self.now.hash_bits ≤ 64 }
@@ -67,7 +67,7 @@ impl ClauseHasher {
         hash
     }
 
-    /// The hash of a literal by the applied name of its variable.
+    /// Returns the hash of a literal by the applied name of its variable.
     fn named_lit_hash(&self, lit: Lit) -> ClauseHash
         ensures { result ≡ named_hash (applied_of self.now (lit / 2)) lit }
     {
@@ -77,7 +77,7 @@ impl ClauseHasher {
         }
     }
 
-    /// The applied name of the variable of this index.
+    /// Returns the applied name of the variable of this index.
     fn name_of(&self, index: usize) -> Option<Var>
         ensures { indexes_of result ≡ applied_of self.now index }
     {
@@ -96,16 +96,20 @@ fn unnamed_hash(lits: &[Lit]) -> ClauseHash
     hash
 }
 
-/// The hash of a literal whose variable has no name.
+/// Returns the hash of a literal whose variable has no name.
 fn unnamed_lit_hash(lit: Lit) -> ClauseHash
     ensures { result ≡ named_hash None lit }
 {
     lit_code_hash(lit.code() + 2 * Var::MAX_COUNT)
 }
 
-/// Sets the width, applies the pending names and removals, and puts every clause into the bucket of
-/// its hash. Where no hash changes no clause is moved, nor where the names that change are those of
-/// variables in no clause. After an error the parts are of no use.
+/// Sets the width, applies the pending names and removals, and moves every clause to the bucket of
+/// its hash. No clause is moved if no hash changes, or if the names that change are those of
+/// variables in no clause.
+///
+/// # Errors
+///
+/// `AllocError` if memory runs out; the parts are unspecified then.
 pub fn rehash(
     alloc: Global,
     hasher: &mut ClauseHasher,
@@ -131,7 +135,10 @@ pub fn rehash(
 }
 
 /// Applies the pending names and removals if one of them is a name.
-/// After an error the parts are of no use.
+///
+/// # Errors
+///
+/// `AllocError` if memory runs out; the parts are unspecified then.
 pub fn apply_pending_names(
     alloc: Global,
     hasher: &mut ClauseHasher,
@@ -151,8 +158,8 @@ pub fn apply_pending_names(
     }
 }
 
-/// Applies names and removals in order, and answers whether one of them changed the name of a
-/// variable that a counted clause holds.
+/// Applies names and removals in order, and returns whether one of them changed the name of a
+/// variable of a counted clause.
 fn apply_names(
     names: &mut HashMap<usize, Var>,
     pending: &[(Var, Option<Var>)],
@@ -170,8 +177,8 @@ fn apply_names(
     Ok(changed)
 }
 
-/// Names a variable, or takes its name away, and answers whether that changed the name of a
-/// variable that a counted clause holds.
+/// Names a variable, or removes its name, and returns whether that changed the name of a variable
+/// of a counted clause.
 fn rename(
     names: &mut HashMap<usize, Var>,
     var: Var,
@@ -187,7 +194,7 @@ fn rename(
     Ok(renamed && is_held(counts, var))
 }
 
-/// Whether a counted clause holds a literal of the variable.
+/// Returns whether a counted clause has a literal of the variable.
 fn is_held(counts: &LitCounts, var: Var) -> bool
     ensures { result ≡ (nat_lt 0 (slice_index counts.now (2 * index_of var))
         || nat_lt 0 (slice_index counts.now (2 * index_of var + 1))) }
@@ -195,7 +202,7 @@ fn is_held(counts: &LitCounts, var: Var) -> bool
     counts.get(var.lit(true)).clause_count > 0 || counts.get(var.lit(false)).clause_count > 0
 }
 
-/// Names a variable, or takes its name away, and answers whether that changed its name.
+/// Names a variable, or removes its name, and returns whether that changed its name.
 fn apply_name(
     names: &mut HashMap<usize, Var>,
     index: usize,

@@ -6,7 +6,7 @@ pub fn list_is()
     ensures { ListIs }
 {}
 
-/// The check of a clause over the parts answers by the rules.
+/// The check of a clause over the parts returns what the rules say.
 pub fn check_is_by_rules()
     ensures { CheckIsByRules }
 {}

@@ -5,9 +5,9 @@ ghost use Rattle.std.specs.List.{list_any};
 use sat_formula::lit::Var;
 use std::alloc::{AllocError, Global};
 
-/// Names, and removals where there is None, in the order in which they came.
+/// Names, and removals (`None`), in order.
 ///
-/// Whether a name is among them is kept beside them, so that a check need not go over the removals.
+/// Whether a name is among them is stored too, so that a check need not scan the removals.
 #[derive(Drop)]
 pub struct PendingNames {
     pub entries: Vec<(Var, Option<Var>)>,
@@ -16,7 +16,7 @@ pub struct PendingNames {
 }
 
 impl PendingNames {
-    /// None waits.
+    /// Returns an empty list. Allocates no memory.
     pub fn new(alloc: Global) -> PendingNames
         ensures { result.entries.items ≡ [] }
     {
@@ -26,14 +26,18 @@ impl PendingNames {
         }
     }
 
-    /// Whether one of the entries is a name.
+    /// Returns whether one of the entries is a name.
     pub fn some_name(&self) -> bool
         ensures { result ≡ list_any (λ p. is_some p.1) self.now.entries.items }
     {
         self.named
     }
 
-    /// Adds a name of a variable, or that its name goes.
+    /// Adds a name of a variable, or that it loses its name.
+    ///
+    /// # Errors
+    ///
+    /// `AllocError` if memory runs out; the entries are unchanged.
     pub fn push(&mut self, var: Var, name: Option<Var>) -> Result<(), AllocError>
         ensures ok { OnOk result (self.new.entries.items
             ≡ self.old.entries.items ++ (var, name) ∷ []) }

@@ -33,7 +33,7 @@ use std::mem::swap;
 pub enum Answer {
     /// The clause follows.
     Passed,
-    /// A hash without a stored clause was met.
+    /// A hash has no stored clause.
     NoClauseForHash,
     /// The named clauses do not show that it follows.
     Failed,
@@ -51,7 +51,7 @@ pub struct RupCheck {
 }
 
 impl RupCheck {
-    /// Nothing is held yet.
+    /// Returns a check without lists. Allocates no memory.
     pub fn new(alloc: Global) -> RupCheck
         ensures { result.trace_ids.items ≡ [] }
     {
@@ -63,11 +63,15 @@ impl RupCheck {
     }
 }
 
-/// Whether a clause follows by propagation from the clauses that the hashes name, in the order
-/// named.
+/// Returns whether a clause follows by unit propagation from the clauses that the hashes name, in
+/// the order named.
 ///
-/// A clause with a literal that is true already passes whatever the hashes are. Only a traced check
-/// that passes changes `trace_ids`; out of memory, nothing is said of them.
+/// A clause with a literal that is true already passes, whatever the hashes are. Only a traced
+/// check that passes changes `trace_ids`.
+///
+/// # Errors
+///
+/// `AllocError` if memory runs out; `trace_ids` are unspecified then.
 pub fn check_clause(
     rup: &mut RupCheck,
     units: &mut Units,

@@ -1,8 +1,10 @@
-//! What is recorded beside the clauses.
+//! What is recorded in addition to the clauses.
 use sat_formula::Lit;
 use std::alloc::Global;
 
-/// What was recorded, and what the last steps said.
+/// What was recorded: the number of steps; whether unsatisfiability is recorded, the proof has
+/// ended, and the checker has failed; how many input clauses took an id; the assumptions, in
+/// canonical form; the id and the literals of the previous clause, if there is one.
 #[derive(Drop)]
 pub struct CheckerState {
     pub step: u64,
@@ -18,7 +20,7 @@ pub struct CheckerState {
 impl CheckerState {
     ghost use Rattle.clause_store.specs.NewParts.{IsNewState};
 
-    /// Nothing is recorded.
+    /// Returns a state in which nothing is recorded. Allocates no memory.
     pub fn new(alloc: Global) -> CheckerState
         ensures { IsNewState result }
     {

@@ -11,6 +11,10 @@ use sat_formula::Lit;
 use std::alloc::AllocError;
 
 /// Makes the first `count` variables known, new ones unnamed and in mode `Sample`.
+///
+/// # Errors
+///
+/// `AllocError` if memory runs out; the parts are unspecified then.
 pub fn ensure_vars(
     clauses: &mut Clauses,
     variables: &mut Variables,
@@ -25,6 +29,10 @@ pub fn ensure_vars(
 }
 
 /// Makes the variables of the literals known.
+///
+/// # Errors
+///
+/// `AllocError` if memory runs out; the parts are unspecified then.
 #[inline(always)]
 pub fn ensure_lits(
     clauses: &mut Clauses,
@@ -44,7 +52,7 @@ pub fn ensure_lits(
     }
 }
 
-/// Whether the variables of all the literals are known.
+/// Returns whether the variables of all the literals are known.
 fn are_known(units: &Units, lits: &[Lit]) -> bool
     ensures { IsTrue result ↔ (var_bound lits.now ≤ length units.now) }
 {
@@ -57,7 +65,7 @@ fn are_known(units: &Units, lits: &[Lit]) -> bool
     true
 }
 
-/// How many variables have to be known for the literals.
+/// Returns how many variables have to be known for the literals.
 pub fn var_bound(lits: &[Lit]) -> usize
     ensures { result ≡ var_bound lits.now }
 {

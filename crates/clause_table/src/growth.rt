@@ -3,8 +3,12 @@ ghost use Rattle.std.specs.Prelude.{◌≡◌, ◌+◌, ◌≤◌, vec_capacity,
 
 use std::alloc::AllocError;
 
-/// Makes room for more items. A vector that has none for them grows by an eighth of its length at
-/// least, so that it is seldom moved and little of it stays empty.
+/// Reserves capacity for more items. A vector that has too little grows by at least an eighth of
+/// its length, so that it is seldom moved and little of it stays empty.
+///
+/// # Errors
+///
+/// `AllocError` if memory runs out; the items are unchanged.
 pub fn grow<T>(items: &mut Vec<T>, more: usize) -> Result<(), AllocError>
     ensures items { items.new.items ≡ items.old.items }
     ensures room { OnOk result (vec_len items.new + more ≤ vec_capacity items.new) }

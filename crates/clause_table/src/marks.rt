@@ -8,14 +8,14 @@ use sat_formula::Lit;
 use std::alloc::{AllocError, Global};
 use std::collections::HashSet;
 
-/// Marks of literals: near ones have places, by their codes; far ones, whose codes are far above
+/// Marks of literals: dense ones have slots, by their codes; sparse ones, whose codes are far above
 /// the number of literals that were stored, are in a set.
 #[derive(Drop)]
 pub struct Marks {
     near: Vec<bool>,
-    /// The codes of the marked literals without a place.
+    /// The codes of the marked literals without a slot.
     far: HashSet<usize>,
-    /// How many literals were stored: there are at most four places for each, spare ones aside.
+    /// How many literals were stored: there are at most four slots for each, spare ones aside.
     stored: u64,
     ghost few: { length near.items ≤ 4 * (stored + spare_lits) + 4 },
 }
@@ -23,7 +23,7 @@ pub struct Marks {
 impl Marks {
     ghost use Rattle.clause_table.specs.Marks.{has_mark, near_marks, stored_count};
 
-    /// No literal is marked.
+    /// Returns an empty set of marks. Allocates no memory.
     pub fn new(alloc: Global) -> Marks
         ensures marks { (l : ℕ) → has_mark result l ≡ false }
         ensures stored { stored_count result ≡ 0 }
@@ -44,7 +44,7 @@ impl Marks {
         self.stored = self.stored.max(stored);
     }
 
-    /// Whether a literal is marked.
+    /// Returns whether a literal is marked.
     #[inline(always)]
     pub fn has(&self, lit: Lit) -> bool
         ensures { result ≡ has_mark self.now lit }
@@ -52,7 +52,7 @@ impl Marks {
         self.has_in(&self.near, lit)
     }
 
-    /// The marks of the literals that have places, for `has_in`.
+    /// Returns the dense marks, for `has_in`.
     #[inline(always)]
     pub fn near(&self) -> &[bool]
         ensures { result.now ≡ near_marks self.now }
@@ -60,7 +60,7 @@ impl Marks {
         self.near.as_slice()
     }
 
-    /// Whether a literal is marked, where the marks at places are at hand.
+    /// Returns whether a literal is marked, given the dense marks.
     #[inline(always)]
     pub fn has_in(&self, near: &[bool], lit: Lit) -> bool
         requires { near.now ≡ near_marks self.now }
@@ -82,7 +82,11 @@ impl Marks {
         !self.far.is_empty() && self.far.contains(&code)
     }
 
-    /// Marks a literal, and answers whether it was not marked before.
+    /// Marks a literal, and returns whether it was not marked before.
+    ///
+    /// # Errors
+    ///
+    /// `AllocError` if memory runs out; the marks are unchanged.
     #[inline(always)]
     pub fn insert(&mut self, lit: Lit) -> Result<bool, AllocError>
         ensures is_new { IfOk result (λ is_new. is_new ≡ not (has_mark self.old lit)) }
@@ -124,7 +128,7 @@ impl Marks {
         }
     }
 
-    /// Takes the mark of a literal away, where it has one.
+    /// Takes the mark of a literal away, if it has one.
     #[inline(always)]
     pub fn clear(&mut self, lit: Lit)
         ensures marks { (l : ℕ) → has_mark self.new l ≡ (not (l == lit) && has_mark self.old l) }

@@ -10,8 +10,8 @@ use sat_formula::Lit;
 use std::alloc::{AllocError, Global};
 use std::collections::HashMap;
 
-/// The clauses under their ids. Small ids that rise have places in turn; ids that are not greater
-/// than those, or far above the number of clauses that were stored, stand in a map.
+/// The clauses under their ids. Small ids that rise have slots in turn; ids that are not greater
+/// than those, or far above the number of clauses that were stored, are in a map.
 #[derive(Drop)]
 pub struct NamedClauses {
     alloc: Global,
@@ -26,7 +26,11 @@ pub struct NamedClauses {
 impl NamedClauses {
     ghost use Rattle.clause_table.specs.Named.{TakesLittle, clause_of, far_clause, stored_clauses};
 
-    /// No clause, with places for some.
+    /// Returns an empty table with slots for the clauses of this many ids.
+    ///
+    /// # Errors
+    ///
+    /// `AllocError` if memory runs out.
     pub fn new(alloc: Global, room: usize) -> Result<NamedClauses, AllocError>
         ensures none { IfOk result (λ made. (k : ℕ) → clause_of made k ≡ None) }
         ensures tight { IfOk result (λ made. TakesLittle made) }
@@ -39,7 +43,7 @@ impl NamedClauses {
         })
     }
 
-    /// The literals of the clause of an id, where it is there.
+    /// Returns the literals of the clause of an id, or `None` if it has none.
     #[inline(always)]
     pub fn get(&self, id: u64) -> Option<&[Lit]>
         ensures { option_copied result ≡ clause_of self.now id }
@@ -59,14 +63,18 @@ impl NamedClauses {
         Some(clause.as_slice())
     }
 
-    /// How many clauses were stored so far.
+    /// Returns how many clauses were stored so far.
     pub fn stored(&self) -> u64
         ensures { result ≡ stored_clauses self.now }
     {
         self.stored
     }
 
-    /// Puts a clause under an id, in place of the one that is there.
+    /// Stores a clause under an id, in place of the one that has it.
+    ///
+    /// # Errors
+    ///
+    /// `AllocError` if memory runs out; every id has the clause that it had.
     pub fn put(&mut self, id: u64, clause: &[Lit]) -> Result<(), AllocError>
         ensures put { OnOk result ((k : ℕ) → clause_of self.new k
             ≡ (if k == id then Some clause.now else clause_of self.old k)) }
@@ -83,7 +91,7 @@ impl NamedClauses {
         Ok(())
     }
 
-    /// Puts a clause in a place, where there is one for it, and answers whether there is.
+    /// Stores a clause in a slot, if there is one for it, and returns whether there is.
     fn put_near(&mut self, id: u64, clause: &[Lit]) -> Result<bool, AllocError>
         ensures near { IfOk result (λ put. put ≡ (gets_place self.old.stored id
             && has_room self.old.near id (length clause.now))) }
@@ -99,7 +107,7 @@ impl NamedClauses {
         self.near.put(id, clause)
     }
 
-    /// Puts a clause in the map. One in a place goes once this can't fail any more.
+    /// Stores a clause in the map. One in a slot is removed once this can't fail any more.
     fn put_far(&mut self, id: u64, clause: &[Lit]) -> Result<(), AllocError>
         ensures put { OnOk result ((k : ℕ) → clause_of self.new k
             ≡ (if k == id then Some clause.now else clause_of self.old k)) }
@@ -113,7 +121,7 @@ impl NamedClauses {
         Ok(())
     }
 
-    /// Removes the clause of an id, where it is there.
+    /// Removes the clause of an id, if it is there.
     pub fn remove(&mut self, id: u64)
         ensures removed { (k : ℕ) → clause_of self.new k
             ≡ (if k == id then None else clause_of self.old k) }
@@ -125,7 +133,7 @@ impl NamedClauses {
         }
     }
 
-    /// Takes the room back that clauses had which were removed, once it is a quarter.
+    /// Reclaims the memory of removed clauses, once it is a quarter.
     pub fn collect_garbage(&mut self)
         ensures same { (k : ℕ) → clause_of self.new k ≡ clause_of self.old k }
         ensures stored { stored_clauses self.new ≡ stored_clauses self.old }

@@ -7,8 +7,8 @@ use crate::growth::grow;
 use sat_formula::Lit;
 use std::alloc::{AllocError, Global};
 
-/// The clauses of small ids, which rise: a place for each id in turn, and one buffer, where each
-/// clause stands after its length.
+/// The clauses of small ids, which rise: a slot for each id in turn, and one buffer, where each
+/// clause follows its length.
 #[derive(Drop)]
 pub struct NearClauses {
     /// Where the first literal of the clause of an id is, or 0.
@@ -24,7 +24,11 @@ pub struct NearClauses {
 impl NearClauses {
     ghost use Rattle.clause_table.specs.Near.{IsTight, has_room, near_clause, place_count};
 
-    /// No clause, with memory for the places of this many ids.
+    /// Returns an empty table with memory for the slots of this many ids.
+    ///
+    /// # Errors
+    ///
+    /// `AllocError` if memory runs out.
     pub fn new(alloc: Global, room: usize) -> Result<NearClauses, AllocError>
         ensures empty { IfOk result (λ made. (id : ℕ) → near_clause made id ≡ None) }
         ensures places { IfOk result (λ made. place_count made ≡ 0) }
@@ -37,7 +41,7 @@ impl NearClauses {
         })
     }
 
-    /// The place of an id, or 0.
+    /// Returns the slot of an id, or 0.
     #[inline(always)]
     fn place(&self, id: u64) -> usize
         ensures value { result ≡ slice_index self.now.places.items id }
@@ -47,7 +51,7 @@ impl NearClauses {
         self.places.get(id as usize).copied().unwrap_or(0) as usize
     }
 
-    /// The literals of the clause of an id, where it is there.
+    /// Returns the literals of the clause of an id, or `None` if it has none.
     #[inline(always)]
     pub fn get(&self, id: u64) -> Option<&[Lit]>
         ensures { option_copied result ≡ near_clause self.now id }
@@ -60,8 +64,12 @@ impl NearClauses {
         Some(&self.lits[place..place + len])
     }
 
-    /// Stores a clause under an id that is greater than those with places, where the buffer has
-    /// room for it, and answers whether it was stored.
+    /// Stores a clause under an id that is greater than those with slots, if its length and its
+    /// position in the buffer are in range, and returns whether it was stored.
+    ///
+    /// # Errors
+    ///
+    /// `AllocError` if memory runs out; every id has the clause that it had.
     pub fn put(&mut self, id: u64, clause: &[Lit]) -> Result<bool, AllocError>
         requires small { id < 2 ^ 62 }
         ensures room { IfOk result (λ stored.
@@ -81,7 +89,7 @@ impl NearClauses {
         Ok(true)
     }
 
-    /// The length of a clause as it is written, where there is room for the clause under an id.
+    /// Returns the length of a clause as it is stored, if the clause can be stored under the id.
     fn len_with_room(&self, id: u64, clause: &[Lit]) -> Option<Lit>
         ensures { SomeIff result (has_room self.now id (length clause.now) ≡ true)
             (length clause.now) }
@@ -92,7 +100,7 @@ impl NearClauses {
         Lit::from_code(clause.len())
     }
 
-    /// Stores a clause and its length under an id that is greater than those with places.
+    /// Stores a clause and its length under an id that is greater than those with slots.
     fn store(&mut self, id: usize, len: Lit, clause: &[Lit]) -> Result<(), AllocError>
         requires greater { length self.old.places.items ≤ id }
         requires small { id < 2 ^ 62 }
@@ -111,7 +119,7 @@ impl NearClauses {
         Ok(())
     }
 
-    /// Makes a place for an id that is greater than those with places.
+    /// Makes a slot for an id that is greater than those with slots.
     fn make_place(&mut self, id: usize) -> Result<(), AllocError>
         requires greater { length self.old.places.items ≤ id }
         requires small { id < 2 ^ 62 }
@@ -129,7 +137,7 @@ impl NearClauses {
         Ok(())
     }
 
-    /// Removes the clause of an id, where it is there.
+    /// Removes the clause of an id, if it is there.
     pub fn remove(&mut self, id: u64)
         ensures removed { (k : ℕ) → near_clause self.new k
             ≡ (if k == id then None else near_clause self.old k) }
@@ -142,8 +150,8 @@ impl NearClauses {
         }
     }
 
-    /// Where more than a quarter of the buffer is garbage, and more than there are places to look
-    /// at, the clauses close up.
+    /// Compacts the clauses, if more than a quarter of the buffer is garbage, and more than there
+    /// are slots.
     pub fn collect_garbage(&mut self)
         ensures same { (k : ℕ) → near_clause self.new k ≡ near_clause self.old k }
         ensures places { place_count self.new ≡ place_count self.old }
@@ -170,7 +178,7 @@ fn append(lits: &mut Vec<Lit>, len: Lit, clause: &[Lit]) -> Result<(), AllocErro
     Ok(())
 }
 
-/// Moves the clauses of places down in their buffer, each to where the one before ends, and answers
+/// Moves the clauses of slots down in their buffer, each to where the one before ends, and returns
 /// where the last ends.
 fn pack(places: &mut Vec<u32>, lits: &mut Vec<Lit>) -> usize
     requires { are_rising lits.old.items 0 places.old.items ≡ true }
@@ -193,7 +201,7 @@ fn pack(places: &mut Vec<u32>, lits: &mut Vec<Lit>) -> usize
     end
 }
 
-/// Moves the clause of a place down to an end, with its length, and answers where it ends there.
+/// Moves the clause of a slot down to an end, with its length, and returns where it ends there.
 fn move_down(lits: &mut Vec<Lit>, place: usize, end: usize) -> usize
     requires down { end < place }
     requires within { place + len_at lits.old.items place ≤ length lits.old.items }

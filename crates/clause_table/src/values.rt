@@ -47,7 +47,7 @@ pub enum Left {
 impl Values {
     ghost use Rattle.clause_table.specs.Lefts.{on_left};
 
-    /// No literal is true.
+    /// Returns the empty assignment. Allocates no memory.
     pub fn new(alloc: Global) -> Values
         ensures { result ≡ [] }
     {
@@ -57,28 +57,28 @@ impl Values {
         }
     }
 
-    /// How many literals are true.
+    /// Returns how many literals are true.
     pub fn len(&self) -> usize
         ensures { result ≡ length self.now }
     {
         self.trail.len()
     }
 
-    /// The literals that are true, in the order in which they became so.
+    /// Returns the literals that are true, in the order in which they became so.
     pub fn lits(&self) -> &[Lit]
         ensures { result.now ≡ self.now }
     {
         self.trail.as_slice()
     }
 
-    /// There may be places for the literals of this many that are stored.
+    /// Allows slots for the literals of a formula that stores this many.
     pub fn allow(&mut self, stored: u64)
         ensures { self.new ≡ self.old }
     {
         self.marks.allow(stored);
     }
 
-    /// Whether a literal is true.
+    /// Returns whether a literal is true.
     #[inline(always)]
     pub fn is_true(&self, lit: Lit) -> bool
         ensures { result ≡ has lit self.now }
@@ -86,7 +86,11 @@ impl Values {
         self.marks.has(!lit)
     }
 
-    /// The literal is true from here on.
+    /// Assigns true to a literal.
+    ///
+    /// # Errors
+    ///
+    /// `AllocError` if memory runs out; the assignment is unchanged.
     #[inline(always)]
     pub fn set(&mut self, lit: Lit) -> Result<(), AllocError>
         ensures { MatchResult result (λ _. self.new ≡ with_lit lit self.old)
@@ -104,7 +108,11 @@ impl Values {
         }
     }
 
-    /// The negations of the literals of a clause, or of those besides one, are true from here on.
+    /// Assigns true to the negations of the literals of a clause, except to that of `besides`.
+    ///
+    /// # Errors
+    ///
+    /// `AllocError` if memory runs out; a beginning of the negations is assigned then.
     pub fn negate(&mut self, clause: &[Lit], besides: Option<Lit>) -> Result<(), AllocError>
         ensures set { OnOk result
             (among self.new ≡ add_negated (lits_besides besides clause.now) (among self.old)) }
@@ -119,7 +127,11 @@ impl Values {
         Ok(())
     }
 
-    /// The negations of the literals of a clause are true from here on, and no others.
+    /// Assigns true to the negations of the literals of a clause, and to no other literal.
+    ///
+    /// # Errors
+    ///
+    /// `AllocError` if memory runs out; a beginning of the negations is assigned then.
     pub fn negate_alone(&mut self, clause: &[Lit]) -> Result<(), AllocError>
         ensures { OnOk result (among self.new ≡ negated_set clause.now) }
     {
@@ -157,7 +169,7 @@ impl Values {
         }
     }
 
-    /// Whether a literal of a clause, besides one, is true.
+    /// Returns whether a literal of a clause, except one, is true.
     pub fn some_true(&self, clause: &[Lit], besides: Lit) -> bool
         ensures { result ≡ list_any (among self.now) (lits_besides (Some besides) clause.now) }
     {
@@ -167,7 +179,7 @@ impl Values {
             .any(|lit| self.is_true(*lit))
     }
 
-    /// The literals of a clause that are not false.
+    /// Returns the literals of a clause that are not false.
     ///
     /// Nearly all that a check looks at are false. They are passed over by one comparison each, in
     /// loops that do nothing else.
@@ -185,8 +197,8 @@ impl Values {
         Left::One(*lit)
     }
 
-    /// The last literal of a clause that is not false, and what comes before it. From the end on,
-    /// the number of literals still to come is all that changes.
+    /// Returns the last literal of a clause that is not false, and what comes before it. From the
+    /// end on, only the number of remaining literals changes.
     #[inline(always)]
     fn last_left<'a>(&self, clause: &'a [Lit]) -> Option<(&'a Lit, &'a [Lit])>
         ensures { MatchOption result (unfalsified (among self.now) clause.now ≡ [])
@@ -204,7 +216,7 @@ impl Values {
         None
     }
 
-    /// Whether all of these literals are false.
+    /// Returns whether all of these literals are false.
     #[inline(always)]
     pub fn are_false(&self, others: &[Lit]) -> bool
         ensures { result ≡ is_falsified (among self.now) others.now }
@@ -218,8 +230,8 @@ impl Values {
         true
     }
 
-    /// The literals of a clause that are not false, where this one is among them and not alone. In
-    /// a good line it is repeated then, which is seldom.
+    /// Returns the literals of a clause that are not false, where this one is among them and not
+    /// alone. In a good line it is repeated then, which is seldom.
     #[cold]
     #[inline(never)]
     fn left_of_several(&self, clause: &[Lit], lit: Lit) -> Left

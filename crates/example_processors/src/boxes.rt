@@ -9,14 +9,14 @@ use checker_parts::processor::{CheckerData, ProofProcessor, ProofTranscriptProce
 use checker_parts::step::{CheckedProofStep, ProofTranscriptStep};
 use std::alloc::Global;
 
-/// Makes a stroke for each step, and shows the strokes.
+/// Adds a stroke for each step; the output is the strokes.
 #[derive(Drop)]
 pub struct Tally {
     strokes: Vec<u8>,
 }
 
 impl Tally {
-    /// No strokes.
+    /// Returns a tally without strokes. Allocates no memory.
     pub fn new(alloc: Global) -> Tally
         ensures { result.strokes.items ≡ [] }
     {
@@ -25,7 +25,11 @@ impl Tally {
         }
     }
 
-    /// Makes one stroke more.
+    /// Adds a stroke.
+    ///
+    /// # Errors
+    ///
+    /// If there is no memory; the strokes are as they were then.
     fn stroke(&mut self) -> Result<(), Error>
         ensures made { OnOk result (self.new.strokes.items ≡ self.old.strokes.items ++ codes "|") }
         ensures kept { OnErr result (self.new.strokes.items ≡ self.old.strokes.items) }
@@ -67,21 +71,25 @@ impl ProofTranscriptProcessor for Tally {
     }
 }
 
-/// Takes this many steps, answers a fault at each one after them, and shows nothing.
+/// Accepts this many steps, fails at each one after them, and has no output.
 #[derive(Drop)]
 pub struct Faulty {
     left: u64,
 }
 
 impl Faulty {
-    /// It takes `left` steps before the first fault.
+    /// Returns a processor that accepts `left` steps before the first fault.
     pub fn after(left: u64) -> Faulty
         ensures { result.left ≡ left }
     {
         Faulty { left }
     }
 
-    /// Takes one step more, or answers the fault.
+    /// Accepts a step.
+    ///
+    /// # Errors
+    ///
+    /// The planned fault, if no step is left.
     fn take(&mut self) -> Result<(), Error>
         ensures took { OnOk result (self.old.left ≡ self.new.left + 1) }
         ensures faulted { OnErr result ((self.old.left ≡ 0) × (self.new ≡ self.old)) }
@@ -135,7 +143,7 @@ pub struct StepList {
 }
 
 impl StepList {
-    /// No lines. Each step gets one.
+    /// Returns an empty list. Each step gets a line. Allocates no memory.
     pub fn new(alloc: Global) -> StepList {
         StepList {
             alloc,
@@ -144,8 +152,8 @@ impl StepList {
         }
     }
 
-    /// No lines. A processor gets one for each variable that gets or loses a name or is deleted,
-    /// with the user variable that is shown with the step.
+    /// Returns an empty list. A processor gets a line for each variable that gets or loses a name
+    /// or is deleted, with the user variable that is shown with the step. Allocates no memory.
     pub fn of_names(alloc: Global) -> StepList {
         StepList {
             names_alone: true,

@@ -1,4 +1,4 @@
-//! A caller with a processor of its own: it counts the steps that are told.
+//! A caller with a processor of its own: it counts the steps that are delivered.
 ghost use Rattle.std.specs.Prelude.{IfErr, IfOk};
 ghost use Rattle.example_processors.specs.Counts.{CountsAgree, Grows, IsCount, IsRefused};
 
@@ -11,8 +11,12 @@ use std::alloc::Global;
 use std::io::Read;
 use varisat_checker::Checker;
 
-/// Adds a formula to a new checker, checks a proof, and answers how many steps a processor was told
-/// of both.
+/// Adds a formula to a new checker, checks a proof, and returns how many steps of both a processor
+/// received.
+///
+/// # Errors
+///
+/// The fault of the formula or the proof, or `OutOfMemory`.
 pub fn count_steps<L: Log, R: Read + Drop>(
     rt: &L,
     alloc: Global,
@@ -28,7 +32,7 @@ pub fn count_steps<L: Log, R: Read + Drop>(
     }
 }
 
-/// Registers a processor with a new checker, adds the formula, checks the proof, and answers by how
+/// Registers a processor with a new checker, adds the formula, checks the proof, and returns by how
 /// many bytes the output has grown.
 fn growth<L: Log, R: Read + Drop>(
     rt: &L,
@@ -52,7 +56,7 @@ fn growth<L: Log, R: Read + Drop>(
     Ok(processors[0].output().len() - before)
 }
 
-/// Given clauses and the given bytes of a proof have one count.
+/// The count is that of the given clauses and of the given bytes of a proof alone.
 pub fn counts_agree()
     ensures { CountsAgree }
 {}

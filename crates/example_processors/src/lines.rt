@@ -1,4 +1,4 @@
-//! Steps as lines of text. Literals and variables are DIMACS numbers; the ids of propagations stand
+//! Steps as lines of text. Literals and variables are DIMACS numbers; the ids of propagations are
 //! in round brackets.
 use checker_parts::processor::CheckerData;
 use checker_parts::step::{
@@ -8,7 +8,7 @@ use sat_formula::{Lit, Var};
 use std::alloc::{AllocError, Global};
 use std::fmt;
 
-/// The line of a step.
+/// Returns the line of a step.
 pub(crate) fn step_line(alloc: Global, step: &Step) -> Result<String, AllocError> {
     match step {
         Step::UserVar { var, user_var } => user_var_line(alloc, *var, user_var),
@@ -70,27 +70,27 @@ pub(crate) fn step_line(alloc: Global, step: &Step) -> Result<String, AllocError
     }
 }
 
-/// The line of a step on a clause.
+/// Returns the line of a step on a clause.
 fn clause_line(alloc: Global, name: &str, id: u64, clause: &[Lit]) -> Result<String, AllocError> {
     format!(in alloc; "{name} {id} {}\n", Lits(clause))
 }
 
-/// The line of a step on literals.
+/// Returns the line of a step on literals.
 fn lits_line(alloc: Global, name: &str, lits: &[Lit]) -> Result<String, AllocError> {
     format!(in alloc; "{name} {}\n", Lits(lits))
 }
 
-/// The line of a step on a variable.
+/// Returns the line of a step on a variable.
 fn var_line(alloc: Global, name: &str, var: Var) -> Result<String, AllocError> {
     format!(in alloc; "{name} {}\n", var.to_dimacs())
 }
 
-/// What becomes of a clause that is deleted.
+/// Returns the word for a deleted clause that is kept as redundant, or is not.
 fn kept(keep_as_redundant: bool) -> &'static str {
     if keep_as_redundant { "keep" } else { "gone" }
 }
 
-/// The line of a name that is given, kept in another mode, or removed.
+/// Returns the line of a name that is given, kept in another mode, or removed.
 fn user_var_line(
     alloc: Global,
     var: Var,
@@ -111,7 +111,7 @@ fn user_var_line(
     }
 }
 
-/// The line of a step of a transcript.
+/// Returns the line of a step of a transcript.
 pub(crate) fn transcript_line(
     alloc: Global,
     step: &ProofTranscriptStep,
@@ -133,7 +133,7 @@ pub(crate) fn transcript_line(
     }
 }
 
-/// The line of a step on one variable, and none of another step.
+/// Returns the line of a step on one variable, and an empty text for another step.
 pub(crate) fn name_line(
     alloc: Global,
     step: &Step,

@@ -56,7 +56,7 @@ pub(crate) struct Draft {
 }
 
 impl Draft {
-    /// No step is begun.
+    /// Returns a draft in which no step is begun. Allocates no memory.
     pub(crate) fn new(alloc: Global) -> Draft {
         Draft {
             due: Due::Hint,
@@ -168,7 +168,7 @@ impl Draft {
         }
     }
 
-    /// The step that has ended.
+    /// Returns the step that has ended.
     pub(crate) fn step(&self, found: Found) -> FratStep<'_>
         ensures { view result ≡ found_step self.now found }
     {
@@ -245,7 +245,7 @@ impl Grammar for Draft {
     }
 }
 
-/// The id that a number says, where one is due.
+/// Returns the id that a number says, if one is due.
 fn id_due(negative: bool, value: u64) -> Result<u64, DratKind>
     ensures { result ≡ id_due negative value }
 {
@@ -258,7 +258,7 @@ fn id_due(negative: bool, value: u64) -> Result<u64, DratKind>
     Ok(value)
 }
 
-/// What is due after a step's letter, where the byte is one.
+/// Returns what is due after a step's letter, where the byte is one.
 fn due_after(letter: u8) -> Option<Due>
     ensures { option_map (λ due. slot_at due [] [] []) result ≡ slot_begun letter }
 {

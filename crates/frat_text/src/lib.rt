@@ -1,5 +1,8 @@
 //! FRAT proofs, text or binary, as solvers write them: steps that name clauses by ids, and may say
 //! why a clause follows.
+//!
+//! Source: Baek, Carneiro, Heule, A Flexible Proof Format for SAT Solver-Elaborator Communication,
+//! TACAS 2021.
 #![tactic(auto)]
 
 mod draft;

@@ -44,7 +44,7 @@ impl<R: Read> FratReader<R> {
     ghost use Rattle.frat_text.specs.FratSteps.{steps_of};
     ghost use Rattle.frat_text.specs.contracts.reader.FratReader.{the_row};
 
-    /// A reader at the start of a proof. It takes no memory and reads nothing yet.
+    /// Returns a reader at the start of a proof. It takes no memory and reads nothing yet.
     pub fn new(alloc: Global, input: R) -> FratReader<R>
         ensures bytes { bytes_left R.remaining (steps_of result) ≡ R.remaining input }
         ensures room { room_left (steps_of result) ≡ 2 ^ 64 - 1 }
@@ -55,7 +55,7 @@ impl<R: Read> FratReader<R> {
         FratReader::over(alloc, Bytes::new(alloc, input))
     }
 
-    /// A reader of the steps that bytes say of which none was taken yet.
+    /// Returns a reader of the steps in these bytes, of which none was taken yet.
     #[doc(hidden)]
     pub fn over(alloc: Global, bytes: Bytes<R>) -> FratReader<R>
         ensures bytes { bytes_left R.remaining (steps_of result) ≡ unread_bytes R.remaining bytes }
@@ -69,12 +69,15 @@ impl<R: Read> FratReader<R> {
         }
     }
 
-    /// The next step, or none at the end of the proof.
+    /// Reads the next step and returns it, or `None` at the end of the proof. Its lists are in the
+    /// reader and are valid until the next call.
     ///
-    /// The step's lists stand in the reader and serve until the next call. A read that fails is
-    /// not tried again, and what was not read to the end of its step is not judged; where it fails
-    /// before the format is told, no step is given. After the end or a fault every call answers
-    /// that there is no step, and nothing more is read.
+    /// # Errors
+    ///
+    /// The first fault of the proof, a failed read, which is not retried, or out of memory. A step
+    /// that was cut by a failed read is not judged. If a read fails before the format is detected,
+    /// no step is returned. After the end or an error every call returns `Ok(None)` and reads
+    /// nothing more.
     pub fn next_step(&mut self) -> Result<Option<FratStep<'_>>, DratFault>
         ensures after_end { has_ended (steps_of self.old) ≡ true → result ≡ Ok None }
         ensures* after_borrow { sem 𝓛 (Rests (the_row R.row) self.entry

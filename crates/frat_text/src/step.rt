@@ -10,26 +10,26 @@ pub enum FratAction {
     Add,
     /// It is deleted.
     Delete,
-    /// It is there still at the end of the proof.
+    /// It is still stored at the end of the proof.
     Final,
 }
 
-/// A hint of the clause that was added last.
+/// A hint of the clause that was added last: the id of a clause.
 #[derive(Clone, Copy, Debug, PartialEq, Eq)]
 pub struct FratHint {
     pub id: u64,
-    /// The clause of the id is resolved with the one that was added.
+    /// Whether the clause of the id is resolved with the one that was added.
     pub is_negative: bool,
 }
 
-/// The clause of one id has another one from now on.
+/// The clause with the id `from` has the id `to` from now on.
 #[derive(Clone, Copy, Debug, PartialEq, Eq)]
 pub struct Renaming {
     pub from: u64,
     pub to: u64,
 }
 
-/// A step. Its lists stand in the reader.
+/// A step. Its lists are in the reader.
 #[derive(Clone, Copy, Debug, PartialEq, Eq)]
 pub enum FratStep<'a> {
     /// Of a clause with an id this is said.

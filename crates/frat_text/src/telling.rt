@@ -1,4 +1,4 @@
-//! Whether a proof is FRAT, told by its first bytes.
+//! Whether a proof is FRAT, by its first bytes.
 ghost use Rattle.std.specs.Prelude.{◌≡◌, ◌≤◌};
 ghost use Rattle.drat_text.specs.Taking.{Looks, unread_bytes, room_in, source_of};
 ghost use Rattle.frat_text.specs.Bytes.{is_frat, seen_at};
@@ -9,19 +9,22 @@ use drat_text::fault::{DratFault, Stop};
 use drat_text::number::{begins_comment, is_space};
 use std::io::Read;
 
-/// What a byte before the first step tells.
+/// What a byte before the first step shows.
 #[derive(Clone, Copy)]
 pub(crate) enum Sight {
-    /// The first step comes later, and what comes next is in a comment or not.
+    /// The first step comes later; the next byte is in a comment or not.
     Later { in_comment: bool },
     /// It begins with this byte, and the proof is FRAT or not.
     Told(bool),
 }
 
-/// Whether a proof is FRAT and not DRAT: its first step begins with an `o`, `f`, `l` or `r`. What
-/// stands before that step is blanks and comments, and all of it is among the first 4,096 bytes.
+/// Returns whether a proof is FRAT and not DRAT: its first step begins with an `o`, `f`, `l` or
+/// `r`. Only blanks and comments are before that step, and all is among the first 4,096 bytes.
+/// Takes no byte.
 ///
-/// None of the bytes is taken.
+/// # Errors
+///
+/// A failed read or out of memory.
 pub fn is_frat<R: Read>(bytes: &mut Bytes<R>) -> Result<bool, DratFault>
     ensures told { TellsFrat (unread_bytes R.remaining bytes.old)
         (unread_bytes R.remaining bytes.new) (source_of bytes.new) result }
@@ -55,7 +58,7 @@ fn look_through<R: Read>(bytes: &mut Bytes<R>) -> Result<bool, Stop>
     Ok(false)
 }
 
-/// What the next byte tells, in a comment or not.
+/// Returns what the next byte shows, in a comment or not.
 fn seen_at(in_comment: bool, byte: u8) -> Sight
     ensures { result ≡ seen_at in_comment byte }
 {

@@ -11,8 +11,8 @@ use lrat_binary::{Ids, LratReader, open_proof};
 use std::alloc::Global;
 use std::io::Read;
 
-/// Whether a line of a proof adds the empty clause, after a formula of this many clauses. Each line
-/// has to be accepted.
+/// Returns whether a line of a proof adds the empty clause, after a formula of this many clauses.
+/// Each line has to be accepted.
 pub(crate) fn check_proof<H: Read + Drop>(
     alloc: Global,
     checker: HintChecker,
@@ -34,7 +34,7 @@ pub(crate) fn check_proof<H: Read + Drop>(
     }
 }
 
-/// Checks the lines of a proof to its end. The answer is whether one adds the empty clause.
+/// Checks the lines of a proof to its end. Returns whether one adds the empty clause.
 fn check_lines<R: Read>(
     checker: &mut HintChecker,
     reader: &mut LratReader<R>,

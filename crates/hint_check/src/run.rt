@@ -17,16 +17,18 @@ use std::io::{ErrorKind, Read, Write};
 use verdicts::{Verdict, write_line};
 use whole_formulas::read_formula;
 
-/// Reads a formula as DIMACS text and a proof in lines of hints, checks them over the formula, and
-/// writes the verdict's line.
+/// Reads a formula as DIMACS text and a proof in lines of hints, checks the lines over the formula,
+/// writes the verdict's line, and returns the verdict.
 ///
-/// The proof is text or binary, as its first bytes tell. How the ids stand in binary lines is told
-/// by them too, where `ids` does not say it.
+/// The proof is text or binary, as detected from its first bytes. The encoding of ids in binary
+/// lines is detected from them too, unless `ids` gives it. `lie` gets the mismatch of the formula's
+/// header, if there is one. The checker of proofs takes no part.
 ///
-/// Nothing is written unless all lines are accepted. Where the line can't be written whole, the
-/// verdict stood, and a beginning of the line is written. The checker of proofs takes no part in
-/// it. `lie` tells what the formula's header lies about; where the formula can't be read that is
-/// nothing.
+/// # Errors
+///
+/// `Formula` if the formula can't be read, with `lie` `None`, `Read` if the proof can't be read,
+/// `Hints` if a line is rejected or memory runs out; nothing is written then. `Write` if the line
+/// of a verdict that was reached could not be written whole: a beginning of it is.
 pub fn run_check<F: Read + Drop, H: Read + Drop, W: Write>(
     alloc: Global,
     cnf: F,
@@ -82,7 +84,7 @@ fn check_hints<H: Read + Drop>(
     }
 }
 
-/// What a run answers where a read failed.
+/// Returns the fault of a run in which a read failed.
 fn unread(fault: io::Error) -> RunFault
     ensures { IsUnread fault result }
 {
@@ -92,7 +94,7 @@ fn unread(fault: io::Error) -> RunFault
     RunFault::Read(fault)
 }
 
-/// Whether there was no memory for what a read gave, or for the read.
+/// Returns whether there was no memory for what a read gave, or for the read.
 fn is_want_of_memory(fault: &io::Error) -> bool
     ensures { IsTrue result ↔ (error_kind fault.now ≡ ErrorKind.OutOfMemory) }
 {

@@ -1,4 +1,4 @@
-//! A checker of lines of hints, which holds ids and clauses and nothing else.
+//! A checker of lines of hints, which stores ids and clauses and nothing else.
 ghost use Rattle.std.specs.Prelude.{◌≡◌, ℕ, Bool, true, List, Some, None, Err, map, IfErr, IfOk, OnOk};
 ghost use Rattle.sat_rules.specs.Clauses.{all_true};
 ghost use Rattle.sat_rules.specs.HintLines as rules;
@@ -35,8 +35,11 @@ pub struct HintChecker {
 }
 
 impl HintChecker {
-    /// A checker that holds the clauses of a formula under 1, 2 and so on. The only fault is
-    /// `OutOfMemory`.
+    /// Returns a checker that stores the clauses of a formula under 1, 2 and so on.
+    ///
+    /// # Errors
+    ///
+    /// `OutOfMemory`, and no other fault.
     pub fn new(alloc: Global, formula: &CnfFormula) -> Result<HintChecker, HintFault>
         ensures ok { IfOk result (λ checker. holds checker ≡ Some (listing formula.now)) }
         ensures err { IfErr result (λ fault. fault ≡ OutOfMemory) }
@@ -54,11 +57,13 @@ impl HintChecker {
         }
     }
 
-    /// Checks whole lines, the last of which may lack its LF, after those of earlier calls. The
-    /// answer is whether some line so far added the empty clause: then no assignment satisfies the
-    /// formula.
+    /// Checks whole lines, the last of which may lack its LF, after those of earlier calls. Returns
+    /// whether some line so far added the empty clause: then no assignment satisfies the formula.
     ///
-    /// After a fault every later call answers `Malformed` with line 0.
+    /// # Errors
+    ///
+    /// The first line that is rejected, or `OutOfMemory`. After it every later call returns
+    /// `Malformed` with line 0.
     pub fn check(&mut self, text: &[u8]) -> Result<bool, HintFault>
         ensures failed { holds self.old ≡ None → (result ≡ Err (Malformed 0))
             × (holds self.new ≡ None) }
@@ -81,11 +86,14 @@ impl HintChecker {
         }
     }
 
-    /// Checks the text of a reader, which is read as it goes and of which no more is held
-    /// than what was read ahead, or its longest line.
+    /// Checks the text of a reader, as a stream: it keeps no more of it than what was read ahead,
+    /// or its longest line. Returns as `check` does.
     ///
-    /// A read that fails is not tried again, and what was not read to the end of its line is not
-    /// judged. After a fault every later call answers `Malformed` with line 0.
+    /// # Errors
+    ///
+    /// `Refused` with the first line that is rejected or with `OutOfMemory`, or `Read` if a read
+    /// failed, which is not retried. A line that was cut by a failed read is not judged. After an
+    /// error every later call returns `Malformed` with line 0.
     pub fn check_reader<R: Read + Drop>(&mut self, input: R) -> Result<bool, HintTextFault>
         ensures failed { holds self.old ≡ None → (result ≡ Err (Refused (Malformed 0)))
             × (holds self.new ≡ None) }
@@ -119,7 +127,9 @@ impl HintChecker {
 
     /// Checks a line after those of earlier calls.
     ///
-    /// After a fault every later call answers `Malformed`.
+    /// # Errors
+    ///
+    /// Why the line is rejected, or `OutOfMemory`. After it every later call returns `Malformed`.
     pub fn check_line(&mut self, line: LratLine<'_>) -> Result<(), LineFault>
         ensures failed { holds self.old ≡ None → (result ≡ Err lines.Malformed)
             × (holds self.new ≡ None) }
@@ -141,7 +151,8 @@ impl HintChecker {
         outcome
     }
 
-    /// Whether some line so far added the empty clause: then no assignment satisfies the formula.
+    /// Returns whether some line so far added the empty clause: then no assignment satisfies the
+    /// formula.
     pub fn added_empty(&self) -> bool
         ensures { (h : Listed) → holds self.now ≡ Some h → result ≡ h.added_empty }
     {
@@ -210,7 +221,7 @@ fn check_line(
     }
 }
 
-/// Collects the ids of hints, in place of what `ids` held. A hint against makes a line malformed.
+/// Collects the ids of hints, in place of what `ids` held. A candidate hint makes a line malformed.
 fn collect_ids(hints: &[Hint], ids: &mut Vec<u64>) -> Result<(), LineFault>
     ensures { CollectsIds ids.new.items result (ids_along (map hint_of hints.now)) }
 {

@@ -1,4 +1,4 @@
-//! Why lines of hints are refused.
+//! Why lines of hints are rejected.
 ghost use Rattle.std.specs.Prelude.{◌≡◌};
 ghost use Rattle.hint_checker.specs.Checked.{in_line};
 ghost use Rattle.hint_checker.specs.Given.{of_bytes, of_text};
@@ -9,10 +9,10 @@ use std::alloc::AllocError;
 use std::io;
 use thiserror::Error;
 
-/// Why a checker of hints refuses a text. Lines count from 1 in each text.
+/// Why a checker of hints rejects a text. Lines count from 1 in each text.
 #[derive(Clone, Copy, Debug, PartialEq, Eq, Error)]
 pub enum HintFault {
-    /// The line is no line of hints. With line 0: an earlier text was refused.
+    /// The line is no line of hints. With line 0: an earlier text was rejected.
     #[error("line {line}: malformed line")]
     Malformed { line: u64 },
     /// An id that is not greater than all before it.
@@ -32,13 +32,13 @@ pub enum HintFault {
     OutOfMemory,
 }
 
-/// Why a checker of hints refuses the text of a reader.
+/// Why a checker of hints rejects the text of a reader.
 #[derive(Debug, Drop, Error)]
 pub enum HintTextFault {
     /// A read failed, or the text is longer than any that is read.
     #[error("error reading hints: {0}")]
     Read(io::Error),
-    /// A line was refused, or there was not enough memory.
+    /// A line was rejected, or there was not enough memory.
     #[error("{0}")]
     Refused(HintFault),
 }
@@ -58,8 +58,8 @@ impl From<LratTextFault> for HintTextFault {
 }
 
 impl HintTextFault {
-    /// The fault of a text in memory. No read of it fails, so an error of one is that there was no
-    /// memory.
+    /// Returns the fault of a text in memory. No read of it fails, so an error of one is that there
+    /// was no memory.
     pub(crate) fn of_bytes(self) -> HintFault
         ensures { result ≡ of_bytes self }
     {
@@ -70,10 +70,10 @@ impl HintTextFault {
     }
 }
 
-/// Why a line is refused, before it is known which line it is.
+/// Why a line is rejected, before it is known which line it is.
 #[derive(Clone, Copy, Debug, PartialEq, Eq)]
 pub enum LineFault {
-    /// The line is no line of hints, or an earlier one was refused.
+    /// The line is no line of hints, or an earlier one was rejected.
     Malformed,
     /// Its id is not greater than all before it.
     IdNotGreater,
@@ -88,7 +88,7 @@ pub enum LineFault {
 }
 
 impl LineFault {
-    /// The fault of the line of that number.
+    /// Returns the fault of the line of that number.
     pub fn in_line(self, line: u64) -> HintFault
         ensures { result ≡ in_line self line }
     {

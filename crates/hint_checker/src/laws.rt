@@ -1,7 +1,7 @@
-//! The law of the answer to a text. The function does nothing: its clause is the law.
+//! The law of the result of a text. The function does nothing: its clause is the law.
 ghost use Rattle.hint_checker.specs.OneAnswer.{AnswerIsOne};
 
-/// A text that is accepted leads to one answer, and is never refused.
+/// A text that is accepted has one result, and is never rejected.
 pub fn answer_is_one()
     ensures { AnswerIsOne }
 {}

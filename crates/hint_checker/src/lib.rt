@@ -1,4 +1,4 @@
-//! A checker of lines of hints in the LRAT format, which holds only ids and clauses.
+//! A checker of lines of hints in the LRAT format, which stores only ids and clauses.
 #![tactic(auto)]
 
 mod checker;

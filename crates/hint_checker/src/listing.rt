@@ -1,4 +1,4 @@
-//! The clauses that a checker of hints holds.
+//! The clauses of a checker of hints.
 ghost use Rattle.std.specs.Prelude.{◌≡◌, ◌+◌, ◌-◌, ◌^◌, ℕ, Bool, Option, None, length, min, IfErr, IfOk, OnOk};
 ghost use Rattle.sat_rules.specs.HintLines.{HintCause, adds_clause, after_line, drop_ids, hints_cause, line_cause, listing, next_cause, unit_among};
 ghost use Rattle.sat_rules.specs.Named.{drop_id, put_id};
@@ -24,7 +24,7 @@ pub(crate) struct Listing {
 }
 
 impl Listing {
-    /// The clauses of a formula under 1, 2 and so on.
+    /// Returns the clauses of a formula under 1, 2 and so on.
     pub(crate) fn new(alloc: Global, formula: &CnfFormula) -> Result<Listing, AllocError>
         ensures held { IfOk result (λ made. held_by made ≡ listing formula.now) }
         ensures small { IfOk result (λ made. IsSmall made) }
@@ -59,7 +59,7 @@ impl Listing {
         Ok(())
     }
 
-    /// Whether a line added the empty clause.
+    /// Returns whether a line added the empty clause.
     pub(crate) fn added_empty(&self) -> bool
         ensures { result ≡ (held_by self.now).added_empty }
     {
@@ -130,7 +130,7 @@ impl Listing {
         Ok(())
     }
 
-    /// Removes the clauses of these ids, where they are there.
+    /// Removes the clauses of these ids, if they are there.
     pub(crate) fn remove(&mut self, ids: &[u64])
         ensures removed { held_by self.new ≡ record (held_by self.old)
             { machine = drop_ids ids.now (held_by self.old).machine } }
@@ -149,7 +149,7 @@ impl Listing {
         self.clauses.remove(id);
     }
 
-    /// Takes room back; what is held stays.
+    /// Reclaims memory; the stored clauses are unchanged.
     fn collect_garbage(&mut self)
         ensures same { held_by self.new ≡ held_by self.old }
         ensures small { IsSmall self.new }
@@ -158,7 +158,7 @@ impl Listing {
     }
 }
 
-/// The literal on which a clause is unit: it has no value, and all others are false.
+/// Returns the literal on which a clause is unit: it has no value, and all others are false.
 fn unit(values: &Values, clause: &[Lit]) -> Option<Lit>
     ensures { result ≡ unit_among (among values.now) clause.now clause.now }
 {

@@ -28,7 +28,10 @@ const RUNS: [Row; 4] = [
         ],
     ),
     ("0", &[("", NOT_VERIFIED)]),
-    ("1 2", &[("5 0 1 2 0", "line 1: unterminated clause")]),
+    (
+        "1 2",
+        &[("5 0 1 2 0", "formula: line 1: unterminated clause")],
+    ),
 ];
 
 /// As much of the line is written as there is room for.
@@ -144,7 +147,7 @@ fn formulas_that_fail(rt: HostRuntime) {
         rt.alloc(),
         texts,
         usize::MAX,
-        "error reading formula: broken",
+        "formula: error reading formula: broken",
     );
 }
 

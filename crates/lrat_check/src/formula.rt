@@ -17,7 +17,7 @@ pub(crate) struct Held {
 }
 
 impl Held {
-    /// The clauses of a formula that stands in memory.
+    /// Returns the clauses of a formula that is in memory.
     pub(crate) fn of(alloc: Global, formula: &CnfFormula) -> Result<Held, AllocError>
         ensures { IfOk result (λ held. HoldsCounted formula.now held) }
     {
@@ -28,8 +28,9 @@ impl Held {
     }
 }
 
-/// The clauses of a text in DIMACS CNF, the whole of it, or its first fault. They stand here alone.
-/// `lie` tells what the header lies about; after a fault that is nothing.
+/// Reads a whole formula as DIMACS text and returns its clauses, or the first fault. They are
+/// stored only here. `lie` gets the mismatch of the header, if there is one; after an error it is
+/// `None`.
 pub(crate) fn read_held<F: Read + Drop>(
     alloc: Global,
     cnf: F,

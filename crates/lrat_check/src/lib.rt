@@ -1,5 +1,5 @@
-//! Whether an LRAT proof shows a formula to be unsatisfiable, said in one line; or whether one
-//! piece of a proof carries it to the clauses that are wanted behind the piece.
+//! Whether an LRAT proof shows that a formula is unsatisfiable, with a verdict in one line; or
+//! whether one piece of a proof derives its target clauses.
 #![tactic(auto)]
 
 mod fault;

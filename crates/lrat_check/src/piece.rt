@@ -1,5 +1,4 @@
-//! Runs over one piece of a proof: its lines carry a formula to the clauses that are wanted behind
-//! them.
+//! Runs over one piece of a proof: its lines derive target clauses from a formula.
 ghost use Rattle.std.specs.Prelude.{◌≡◌, ◌≢◌, ℕ, List, Some, Ok, IfOk};
 ghost use Rattle.std.specs.Io.KnownBytes.{Appends};
 ghost use Rattle.sat_formula.specs.Refuted.{IsRefuted};
@@ -23,26 +22,32 @@ use std::io::{Read, Write};
 use verdicts::{PieceVerdict, write_piece_line};
 use whole_formulas::read_formula;
 
-/// What a run over a piece tells beside its verdict.
+/// What a run over a piece reports in addition to its verdict.
 #[derive(Drop)]
 pub struct PieceTold {
-    /// The first wanted clause that is not there, where the verdict is that. Else it stays.
+    /// The first target clause that is missing, if the verdict is that one is. Else it is
+    /// unchanged.
     pub missing: Option<MissingClause>,
-    /// What the formula's header lies about.
+    /// The mismatch of the formula's header.
     pub lie: Option<LyingHeader>,
-    /// What the header of the wanted clauses lies about.
+    /// The mismatch of the header of the target clauses.
     pub wanted_lie: Option<LyingHeader>,
 }
 
-/// Reads a formula and the clauses that are wanted behind a piece of a proof, both in DIMACS CNF,
-/// checks the piece, and writes the verdict's line.
+/// Reads a formula and the target clauses of a piece of a proof, both in DIMACS CNF, checks the
+/// piece, writes the verdict's line, and returns the verdict.
 ///
-/// The verdict is `Carried` where all lines of the piece are accepted, none adds the empty clause,
-/// and each wanted clause is stored behind them, its literals in the same order: then some
-/// assignment satisfies all of them, if one satisfies the formula. It is `NotCarried` where the
-/// lines are so and a wanted clause is stored under no id. It is `Refuted` where a line adds the
-/// empty clause, up to which the piece is read. Where a line is refused or can't be read,
-/// no line is written. Where the verdict's line can't be written whole, the verdict stood.
+/// The verdict is `Carried` if all lines of the piece are accepted, none adds the empty clause, and
+/// each target clause is stored at the end, its literals in the same order: then some assignment
+/// satisfies all of them, if one satisfies the formula. It is `NotCarried` if all lines are
+/// accepted and a target clause is stored under no id. It is `Refuted` if a line adds the empty
+/// clause, up to which the piece is read.
+///
+/// # Errors
+///
+/// `Run` as a run over a whole proof, and `Wanted` if the target clauses can't be read. If a text
+/// can't be read or a line is rejected, nothing is written. If the line of a verdict that was
+/// reached could not be written whole, a beginning of it is.
 pub fn run_piece<F: Read + Drop, G: Read + Drop, P: Read + Drop, W: Write>(
     alloc: Global,
     cnf: F,
@@ -82,7 +87,7 @@ pub fn run_piece<F: Read + Drop, G: Read + Drop, P: Read + Drop, W: Write>(
     run_read_piece(alloc, held, &wanted, piece, ids, &mut told.missing, out)
 }
 
-/// The same after both formulas.
+/// Returns the same after both formulas.
 fn run_read_piece<P: Read + Drop, W: Write>(
     alloc: Global,
     held: Held,
@@ -116,7 +121,7 @@ fn run_read_piece<P: Read + Drop, W: Write>(
     }
 }
 
-/// What a piece shows of the formula that was given and the wanted clauses.
+/// Returns what a piece shows of the formula that was given and the target clauses.
 fn judge_piece<P: Read + Drop>(
     alloc: Global,
     held: Held,
@@ -148,7 +153,8 @@ fn judge_piece<P: Read + Drop>(
     }
 }
 
-/// The verdict of a piece without a conflict, by whether the wanted clauses are stored behind it.
+/// Returns the verdict of a piece without a conflict, by whether the target clauses are stored at
+/// its end.
 fn verdict_by(held: bool) -> PieceVerdict
     ensures { result ≡ verdict_by held }
 {

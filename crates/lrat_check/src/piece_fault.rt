@@ -1,15 +1,15 @@
-//! Why a run over a piece of a proof comes to no verdict.
+//! Why a run over a piece of a proof has no verdict.
 use crate::fault::RunFault;
 use sat_formula::DimacsFault;
 use thiserror::Error;
 
-/// What a run over a piece of a proof answers in place of a verdict.
+/// Why a run over a piece of a proof has no verdict.
 #[derive(Debug, Drop, Error)]
 pub enum PieceFault {
     /// The formula, the piece or the output has the fault that it would have in any run.
     #[error("{0}")]
     Run(RunFault),
-    /// The clauses that are wanted behind the piece were not read whole.
+    /// The target clauses were not read whole.
     #[error("wanted clauses: {0}")]
     Wanted(DimacsFault),
 }

@@ -15,7 +15,7 @@ use lrat_checker::{LineFault, LratChecker, LratFault};
 use std::alloc::Global;
 use std::io::Read;
 
-/// Whether a proof shows that no assignment satisfies the formula that was given.
+/// Returns whether a proof shows that no assignment satisfies the formula that was given.
 pub(crate) fn refute<P: Read + Drop>(
     alloc: Global,
     held: Held,
@@ -31,9 +31,9 @@ pub(crate) fn refute<P: Read + Drop>(
     refute_after(alloc, &mut checker, count, proof, ids, &mut known)
 }
 
-/// Whether a proof shows that no assignment satisfies the clauses that a checker holds, `count` of
-/// them. The checker then has the lines that were read. The ids that they added are known, where
-/// they are asked for.
+/// Returns whether a proof shows that no assignment satisfies the `count` clauses of a checker. The
+/// checker then has checked the lines that were read. The ids that they added are recorded, if
+/// asked for.
 ///
 /// Nothing is read where the formula has the empty clause.
 pub(crate) fn refute_after<P: Read + Drop>(
@@ -61,8 +61,8 @@ pub(crate) fn refute_after<P: Read + Drop>(
     }
 }
 
-/// Checks the lines of a proof up to the first that adds the empty clause. The answer is whether
-/// there is one.
+/// Checks the lines of a proof up to the first that adds the empty clause. Returns whether there is
+/// one.
 fn refute_lines<R: Read>(
     checker: &mut LratChecker,
     reader: &mut LratReader<R>,
@@ -94,7 +94,7 @@ fn refute_lines<R: Read>(
     Ok(true)
 }
 
-/// The fault of a line of this number that is not accepted.
+/// Returns the fault of a line of this number that is not accepted.
 fn in_line(fault: LineFault, line: u64) -> LratFault
     ensures { result ≡ in_line fault line }
 {

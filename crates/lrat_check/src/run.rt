@@ -18,15 +18,17 @@ use std::io;
 use std::io::{Read, Write};
 use verdicts::{Verdict, write_line};
 
-/// Checks a proof after a formula, up to its first line that adds the empty clause, and writes the
-/// verdict's line. What stands after that line is not read. Nothing is where the formula has the
-/// empty clause.
+/// Checks a proof over a formula up to its first line that adds the empty clause, writes the
+/// verdict's line, and returns the verdict. What follows that line is not read. If the formula has
+/// the empty clause, nothing is.
 ///
-/// The proof is text or binary, as its first bytes tell. How the ids stand in binary lines is told
-/// by them too, where `ids` does not say it.
+/// The proof is text or binary, as detected from its first bytes. The encoding of ids in binary
+/// lines is detected from them too, unless `ids` gives it.
 ///
-/// Nothing is written where a line is refused or can't be read. Where the verdict's line can't be
-/// written whole, the verdict stood, and a beginning of the line is written.
+/// # Errors
+///
+/// `Proof` if a line is rejected or can't be read, with nothing written; `Write` if the line of a
+/// verdict that was reached could not be written whole: a beginning of it is.
 pub fn run_proof<P: Read + Drop, W: Write>(
     alloc: Global,
     formula: &CnfFormula,
@@ -49,11 +51,16 @@ pub fn run_proof<P: Read + Drop, W: Write>(
     }
 }
 
-/// Reads a formula in DIMACS CNF, checks the proof, and writes the verdict's line.
+/// Reads a formula in DIMACS CNF, checks the proof, writes the verdict's line, and returns the
+/// verdict.
 ///
-/// The proof is read only once the formula was read whole. What is written is as for `run_proof`;
-/// nothing is where the formula can't be read. `lie` tells what the formula's header lies about;
-/// where the formula can't be read that is nothing.
+/// The proof is read only after the whole formula. `lie` gets the mismatch of the formula's header,
+/// if there is one.
+///
+/// # Errors
+///
+/// `Formula` if the formula can't be read, with nothing written and `lie` `None`; else as for
+/// `run_proof`.
 pub fn run_check<F: Read + Drop, P: Read + Drop, W: Write>(
     alloc: Global,
     cnf: F,

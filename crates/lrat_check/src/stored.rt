@@ -1,4 +1,4 @@
-//! Whether the clauses are stored that are wanted behind a piece of a proof.
+//! Whether the target clauses of a piece of a proof are stored.
 ghost use Rattle.std.specs.Prelude.{◌≡◌, ◌≢◌, ◌↔◌, ◌<◌, ◌≤◌, ◌++◌, ℕ, List, Contains, IfOk, IsTrue, MatchBool, MatchOption, Ok, OnOk, Some, false, true};
 ghost use Rattle.lrat_rules.specs.Lines.{Line};
 ghost use Rattle.lrat_rules.specs.Stores.{find};
@@ -21,12 +21,12 @@ pub(crate) struct KnownIds {
     count: u64,
     /// Whether the ids that lines add are asked for.
     asked: bool,
-    /// The ids that the lines added, where they are asked for.
+    /// The ids that the lines added, if they are asked for.
     added: Vec<u64>,
 }
 
 impl KnownIds {
-    /// Of a run over a whole proof, which asks for none.
+    /// Returns the ids of a run over a whole proof, which asks for none.
     pub(crate) fn unasked(alloc: Global) -> KnownIds {
         KnownIds {
             count: 0,
@@ -35,7 +35,7 @@ impl KnownIds {
         }
     }
 
-    /// Those of a formula of this many clauses.
+    /// Returns the ids of a formula of this many clauses.
     pub(crate) fn of_formula(alloc: Global, count: u64) -> KnownIds
         ensures count { result.count ≡ count }
         ensures asked { result.asked ≡ true }
@@ -47,7 +47,7 @@ impl KnownIds {
         }
     }
 
-    /// Those of one line more.
+    /// Records the id that a line adds, if ids are asked for.
     pub(crate) fn note(&mut self, line: LratLine<'_>) -> Result<(), AllocError>
         ensures count { self.new.count ≡ self.old.count }
         ensures asked { self.new.asked ≡ self.old.asked }
@@ -63,7 +63,7 @@ impl KnownIds {
         Ok(())
     }
 
-    /// Those of the clauses that the checker holds, by their literals. Nothing rests on them.
+    /// Those of the clauses that the checker has, by their literals. No verdict relies on them.
     fn by_clause(
         &self,
         alloc: Global,
@@ -79,7 +79,7 @@ impl KnownIds {
         Ok(ids)
     }
 
-    /// An id of the formula's clauses under which this clause is held.
+    /// Returns an id of the formula's clauses under which this clause is stored.
     fn in_formula(&self, checker: &LratChecker, clause: &[Lit]) -> Option<u64>
         ensures { (formula : List (List ℕ)) (lines : List Line)
             → (ready : IsReady formula lines checker.now) → MatchOption result
@@ -96,7 +96,7 @@ impl KnownIds {
         None
     }
 
-    /// An id of the clauses that lines added under which this clause is held.
+    /// Returns an id of the clauses that lines added under which this clause is stored.
     fn in_added(&self, checker: &LratChecker, clause: &[Lit]) -> Option<u64>
         ensures { (formula : List (List ℕ)) (lines : List Line)
             → (ready : IsReady formula lines checker.now) → MatchOption result
@@ -112,7 +112,7 @@ impl KnownIds {
         None
     }
 
-    /// An id under which this clause is held.
+    /// Returns an id under which this clause is stored.
     fn id_of(&self, checker: &LratChecker, clause: &[Lit]) -> Option<u64>
         ensures { (formula : List (List ℕ)) (lines : List Line)
             → (ready : IsReady formula lines checker.now) → MatchOption result
@@ -125,7 +125,7 @@ impl KnownIds {
         }
     }
 
-    /// The same; the map says where to look first.
+    /// Returns the same; the map says where to look first.
     fn find_id(
         &self,
         checker: &LratChecker,
@@ -144,7 +144,7 @@ impl KnownIds {
     }
 }
 
-/// Whether the checker holds this clause under the id, its literals in this order.
+/// Returns whether the checker has this clause under the id, its literals in this order.
 fn is_named(checker: &LratChecker, id: u64, clause: &[Lit]) -> bool
     ensures { (formula : List (List ℕ)) (lines : List Line)
         → (ready : IsReady formula lines checker.now)
@@ -156,7 +156,7 @@ fn is_named(checker: &LratChecker, id: u64, clause: &[Lit]) -> bool
     }
 }
 
-/// Puts an id under the literals of its clause, where the checker holds one.
+/// Stores an id under the literals of its clause, if the checker has one.
 fn put_id(
     alloc: Global,
     ids: &mut HashMap<Vec<Lit>, u64>,
@@ -169,7 +169,7 @@ fn put_id(
     Ok(())
 }
 
-/// Whether the checker holds all wanted clauses. The first that it does not hold is told.
+/// Returns whether the checker has all target clauses. Reports the first that it does not have.
 pub(crate) fn holds_all(
     alloc: Global,
     checker: &LratChecker,

@@ -22,7 +22,7 @@ use sat_formula::{CnfFormula, Lit};
 use std::alloc::{AllocError, Global};
 use std::io::Read;
 
-/// Checks the lines of an LRAT proof after the clauses of a formula, groups included.
+/// A checker of the lines of an LRAT proof over a formula, RAT steps included.
 #[derive(Drop)]
 pub struct LratChecker {
     alloc: Global,
@@ -37,7 +37,11 @@ impl LratChecker {
     ghost use Rattle.lrat_checker.specs.TextAnswers.{IfCut, IsCut, IsTextAnswer};
     ghost use Rattle.lrat_checker.specs.Faults.{of_text};
 
-    /// A checker that holds the clauses of a formula under 1, 2 and so on.
+    /// Returns a checker that stores the clauses of a formula under 1, 2 and so on.
+    ///
+    /// # Errors
+    ///
+    /// `AllocError` if memory runs out.
     pub fn new(alloc: Global, formula: &CnfFormula) -> Result<LratChecker, AllocError>
         ensures ready { IfOk result (λ checker. IsReady formula.now [] checker) }
         ensures tight { IfOk result (λ checker. HoldsLittle checker) }
@@ -45,7 +49,7 @@ impl LratChecker {
         Ok(LratFormula::of(alloc, formula)?.checker())
     }
 
-    /// A checker that holds these clauses, which have the empty one or not.
+    /// Returns a checker with these clauses, which include the empty one or not.
     pub(crate) fn after(
         alloc: Global,
         clauses: Clauses,
@@ -65,8 +69,8 @@ impl LratChecker {
         }
     }
 
-    /// Whether the formula has the empty clause, or a line so far added it: then no assignment
-    /// satisfies the formula.
+    /// Returns whether the formula has the empty clause, or a line so far added it: then no
+    /// assignment satisfies the formula.
     pub fn refuted(&self) -> bool
         ensures value { result ≡ has_refuted self.now }
         ensures refutes { (formula : List (List ℕ)) (lines : List Line)
@@ -76,7 +80,7 @@ impl LratChecker {
         self.refuted // it stays true after a refusal
     }
 
-    /// The literals of the clause that is stored under an id.
+    /// Returns the literals of the clause that is stored under an id.
     pub fn clause(&self, id: u64) -> Option<&[Lit]>
         ensures { (formula : List (List ℕ)) (lines : List Line)
             → (ready : IsReady formula lines self.now)
@@ -85,8 +89,9 @@ impl LratChecker {
         self.clauses.get(id)
     }
 
-    /// Whether each of these clauses is stored under the id at its place, with its literals in the
-    /// same order. Then the formula carries to them: the lines so far need not refute it.
+    /// Returns whether each of these clauses is stored under the id at its position, with its
+    /// literals in the same order. Then they are satisfiable if the formula is: the lines so far
+    /// need not refute it.
     ///
     /// It is false after a line that was not accepted.
     pub fn holds(&self, wanted: &CnfFormula, ids: &[u64]) -> bool
@@ -103,9 +108,12 @@ impl LratChecker {
         self.clauses.are_named(wanted, ids)
     }
 
-    /// Checks one line after those of earlier calls, and does what it says.
+    /// Checks one line after those of earlier calls: adds its clause or deletes its clauses.
     ///
-    /// After a line that was not accepted every later call answers `Failed`.
+    /// # Errors
+    ///
+    /// `Refused` with the cause if the line is rejected, `OutOfMemory` if memory runs out. After
+    /// either every later call returns `Failed`.
     pub fn check_line(&mut self, line: LratLine<'_>) -> Result<(), LineFault>
         ensures accepted { (formula : List (List ℕ)) (lines : List Line)
             → IsReady formula lines self.old
@@ -135,11 +143,15 @@ impl LratChecker {
         }
     }
 
-    /// Checks the lines of a text after those of earlier calls. The answer is whether the formula
-    /// has the empty clause, or some line so far added it: then no assignment satisfies the
-    /// formula.
+    /// Checks the lines of a text after those of earlier calls. Returns whether the formula has the
+    /// empty clause or some line so far added it: then no assignment satisfies the formula.
     ///
-    /// The text is read as it goes, line by line. After a fault every later call answers `Failed`.
+    /// The text is read as a stream, line by line.
+    ///
+    /// # Errors
+    ///
+    /// The first line that is rejected (`Refused`) or can't be read (`Unread`), a failed read or
+    /// out of memory. After it every later call returns `Failed`.
     pub fn check<R: Read + Drop>(&mut self, proof: R) -> Result<bool, LratFault>
         ensures checked { (formula : List (List ℕ)) (lines : List Line)
             → IsReady formula lines self.old
@@ -155,8 +167,12 @@ impl LratChecker {
         self.check_text(proof, false)
     }
 
-    /// Checks a text up to the first line that adds the empty clause. What stands after it is not
-    /// checked. Where the formula has the empty clause, nothing is.
+    /// Checks a text up to the first line that adds the empty clause, and returns whether there is
+    /// one. What follows that line is not checked. If the formula has the empty clause, nothing is.
+    ///
+    /// # Errors
+    ///
+    /// As for `check`.
     pub fn refute<R: Read + Drop>(&mut self, proof: R) -> Result<bool, LratFault>
         ensures checked { (formula : List (List ℕ)) (lines : List Line)
             → IsReady formula lines self.old
@@ -210,7 +226,7 @@ impl LratChecker {
         Ok(self.refuted)
     }
 
-    /// Whether nothing more is asked for.
+    /// Returns whether nothing more is asked for.
     fn is_done(&self, until_refuted: bool) -> bool
         ensures { result ≡ (until_refuted && has_refuted self.now) }
     {

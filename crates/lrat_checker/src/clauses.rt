@@ -10,7 +10,7 @@ use clause_table::NamedClauses;
 use sat_formula::{CnfFormula, Lit};
 use std::alloc::{AllocError, Global};
 
-/// The clauses by their ids, and how often each literal stands in them.
+/// The clauses by their ids, and how often each literal is in them.
 #[derive(Drop)]
 pub(crate) struct Clauses {
     named: NamedClauses,
@@ -20,7 +20,7 @@ pub(crate) struct Clauses {
 impl Clauses {
     ghost use Rattle.lrat_checker.specs.Held.{table_of};
 
-    /// No clause, with places for some.
+    /// Returns a table without clauses, with slots for some.
     pub(crate) fn empty(alloc: Global, room: usize) -> Result<Clauses, AllocError>
         ensures table { IfOk result (λ made. table_of made ≡ empty_table) }
         ensures tight { IfOk result (λ made. TakesLittle made.named) }
@@ -31,21 +31,21 @@ impl Clauses {
         })
     }
 
-    /// The literals of the clause of an id, where it is there.
+    /// Returns the literals of the clause of an id, if it is there.
     pub(crate) fn get(&self, id: u64) -> Option<&[Lit]>
         ensures { option_copied result ≡ (table_of self.now).named id }
     {
         self.named.get(id)
     }
 
-    /// Whether the id names a clause.
+    /// Returns whether the id names a clause.
     pub(crate) fn contains(&self, id: u64) -> bool
         ensures { result ≡ is_some ((table_of self.now).named id) }
     {
         self.get(id).is_some()
     }
 
-    /// Whether the ids name these clauses, one each, in this order.
+    /// Returns whether the ids name these clauses, one each, in this order.
     pub(crate) fn are_named(&self, wanted: &CnfFormula, ids: &[u64]) -> bool
         ensures { IsTrue result ↔ NamedBy (table_of self.now).named ids.now wanted.now }
     {
@@ -62,7 +62,7 @@ impl Clauses {
         left.is_empty()
     }
 
-    /// Whether the id names this clause, its literals in this order.
+    /// Returns whether the id names this clause, its literals in this order.
     fn is_named(&self, id: u64, clause: &[Lit]) -> bool
         ensures { IsTrue result ↔ ((table_of self.now).named id ≡ Some clause.now) }
     {
@@ -72,28 +72,28 @@ impl Clauses {
         }
     }
 
-    /// How many clauses were stored so far.
+    /// Returns how many clauses were stored so far.
     pub(crate) fn stored(&self) -> u64
         ensures { result ≡ stored_clauses self.now.named }
     {
         self.named.stored()
     }
 
-    /// For how many literals there may be places.
+    /// Returns for how many literals there may be slots.
     pub(crate) fn lits_stored(&self) -> u64
         ensures { result ≡ self.now.counts.stored }
     {
         self.counts.stored()
     }
 
-    /// How often a literal stands in the clauses.
+    /// Returns how often a literal is in the clauses.
     pub(crate) fn count(&self, lit: Lit) -> u64
         ensures { result ≡ (table_of self.now).counts lit }
     {
         self.counts.get(lit)
     }
 
-    /// Stores a clause under an id that names none. After an error the clauses are of no use.
+    /// Stores a clause under an id that names none. After an error the clauses are unspecified.
     pub(crate) fn put(&mut self, id: u64, clause: &[Lit]) -> Result<(), AllocError>
         ensures table { OnOk result (table_of self.new ≡ put id clause.now (table_of self.old)) }
         ensures stored { OnOk result (stored_clauses self.new.named
@@ -105,7 +105,7 @@ impl Clauses {
         Ok(())
     }
 
-    /// Removes the clauses of these ids, where they are there.
+    /// Removes the clauses of these ids, if they are there.
     pub(crate) fn remove(&mut self, ids: &[u64])
         ensures table { table_of self.new ≡ drop_all ids.now (table_of self.old) }
         ensures tight { TakesLittle self.new.named }

@@ -1,4 +1,4 @@
-//! How often each literal stands in stored clauses.
+//! How often each literal is in stored clauses.
 ghost use Rattle.std.specs.Prelude.{◌≡◌, ◌+◌, ◌-◌, ◌*◌, ◌==◌, ◌<◌, ◌≤◌, ◌^◌, ℕ, if◌then◌else◌, length, max, min, nat_lt, slice_index, IsOk, OnOk};
 ghost use Rattle.lrat_checker.specs.FarCounts.{far_count};
 ghost use Rattle.clause_table.specs.Room.{spare_lits};
@@ -9,14 +9,14 @@ use sat_formula::Lit;
 use std::alloc::{AllocError, Global};
 use std::collections::HashMap;
 
-/// For each literal, how often it stands in stored clauses, in four bytes. Near literals are
-/// counted by their codes in turn, and those whose codes are far above the number of literals that
-/// were stored in a map.
+/// For each literal, how often it is in stored clauses, in four bytes. Dense literals are counted
+/// by their codes in turn, and those whose codes are far above the number of literals that were
+/// stored in a map.
 #[derive(Drop)]
 pub(crate) struct LitCounts {
     near: Vec<u32>,
     far: HashMap<usize, u32>,
-    /// There may be four places for each of this many literals, spare ones aside.
+    /// There may be four slots for each of this many literals, spare ones aside.
     stored: u64,
     ghost few: { length near.items ≤ 4 * (stored + spare_lits) + 4 },
 }
@@ -24,7 +24,7 @@ pub(crate) struct LitCounts {
 impl LitCounts {
     ghost use Rattle.lrat_checker.specs.Counts.{lit_count};
 
-    /// No literal stands in a clause.
+    /// Returns counts of 0. Allocates no memory.
     pub(crate) fn new(alloc: Global) -> LitCounts
         ensures counts { (l : ℕ) → lit_count result l ≡ 0 }
         ensures stored { result.stored ≡ 0 }
@@ -36,14 +36,14 @@ impl LitCounts {
         }
     }
 
-    /// For how many literals there may be places.
+    /// Returns for how many literals there may be slots.
     pub(crate) fn stored(&self) -> u64
         ensures { result ≡ self.now.stored }
     {
         self.stored
     }
 
-    /// How often the literal stands in stored clauses.
+    /// Returns how often the literal is in stored clauses.
     pub(crate) fn get(&self, lit: Lit) -> u64
         ensures { result ≡ lit_count self.now lit }
     {
@@ -54,8 +54,8 @@ impl LitCounts {
 
     /// One clause more is stored.
     ///
-    /// A literal that is stored 2^32 - 1 times can be stored no more, which is answered as want of
-    /// memory: these literals alone take 16 gigabytes. After an error the counts are of no use.
+    /// A literal that is stored 2^32 - 1 times can be stored no more, which is returned as out of
+    /// memory: these literals alone take 16 gigabytes. After an error the counts are unspecified.
     pub(crate) fn raise(&mut self, clause: &[Lit]) -> Result<(), AllocError>
         ensures counts { OnOk result ((l : ℕ)
             → lit_count self.new l ≡ count_of l clause.now + lit_count self.old l) }
@@ -109,7 +109,7 @@ impl LitCounts {
     }
 }
 
-/// Counts a code once more at its place.
+/// Counts a code once more in its slot.
 fn add_near(near: &mut Vec<u32>, code: usize) -> Result<(), AllocError>
     requires { code < 2 ^ 29 }
     ensures counts { OnOk result ((l : ℕ) → slice_index near.new.items l
@@ -137,7 +137,7 @@ fn add_far(far: &mut HashMap<usize, u32>, code: usize) -> Result<(), AllocError>
     Ok(())
 }
 
-/// Counts a code once less at its place, where it is counted there; answers whether it was.
+/// Counts a code once less in its slot, if it is counted there; returns whether it was.
 #[inline(always)]
 fn take_near(near: &mut Vec<u32>, code: usize) -> bool
     ensures counts { (l : ℕ) → slice_index near.new.items l
@@ -153,7 +153,7 @@ fn take_near(near: &mut Vec<u32>, code: usize) -> bool
     }
 }
 
-/// Counts a code once less in the map, where it is counted there.
+/// Counts a code once less in the map, if it is counted there.
 #[cold]
 #[inline(never)]
 fn take_far(far: &mut HashMap<usize, u32>, code: usize)
@@ -167,7 +167,7 @@ fn take_far(far: &mut HashMap<usize, u32>, code: usize)
     }
 }
 
-/// Makes room for the count of a code.
+/// Makes a slot for the count of a code.
 pub(crate) fn make_room(near: &mut Vec<u32>, code: usize) -> Result<(), AllocError>
     requires { code < 2 ^ 62 }
     ensures same { (l : ℕ) → slice_index near.new.items l ≡ slice_index near.old.items l }

@@ -1,4 +1,4 @@
-//! Why lines are refused.
+//! Why lines are rejected.
 ghost use Rattle.std.specs.Prelude.{◌≡◌};
 ghost use Rattle.lrat_checker.specs.Faults.{fault_of, in_line, of_text};
 ghost use Rattle.lrat_checker.specs.declared.fault.Stop.TheVariants as stops;
@@ -8,33 +8,33 @@ use std::alloc::AllocError;
 use std::io;
 use thiserror::Error;
 
-/// Why a line is refused.
+/// Why a line is rejected.
 #[derive(Clone, Copy, Debug, PartialEq, Eq, Error)]
 pub enum LratCause {
     /// The id of the new clause names a clause already.
     #[error("id is taken")]
     IdTaken,
-    /// A hint before the groups names no clause.
+    /// An antecedent hint names no clause.
     #[error("no clause has the id of a hint")]
     UnknownId,
-    /// A hint before the groups names a clause with two literals that are not false.
+    /// An antecedent hint names a clause with two literals that are not false.
     #[error("clause of a hint is not unit")]
     NotUnit,
-    /// The hints end without a conflict, and there is no group.
+    /// The hints end without a conflict, and there is no RAT candidate.
     #[error("hints end without a conflict")]
     NoConflict,
-    /// A clause with the negation of the first literal has no group.
-    #[error("no group for a clause with the negation of the first literal")]
+    /// A clause with the negation of the pivot is no candidate of the line.
+    #[error("no hints for a clause with the negation of the pivot")]
     GroupMissing,
-    /// The hints of a group end without a conflict.
-    #[error("hints of a group end without a conflict")]
+    /// The hints of a candidate end without a conflict.
+    #[error("hints of a candidate end without a conflict")]
     GroupFails,
 }
 
 /// Why a line is not accepted.
 #[derive(Clone, Copy, Debug, PartialEq, Eq, Error)]
 pub enum LineFault {
-    /// The line is refused.
+    /// The line is rejected.
     #[error("{0}")]
     Refused(LratCause),
     /// There was no memory for what the line says.
@@ -54,7 +54,7 @@ pub enum LratFault {
     /// The line can't be read.
     #[error("line {line}: {kind}")]
     Unread { line: u64, kind: LineKind },
-    /// The line is refused.
+    /// The line is rejected.
     #[error("line {line}: {cause}")]
     Refused { line: u64, cause: LratCause },
     /// There was no memory for what the text says.
@@ -81,7 +81,7 @@ impl From<AllocError> for Stop {
 }
 
 impl Stop {
-    /// The fault of a line that is checked.
+    /// Returns the fault of a line that is checked.
     pub(crate) fn fault(self) -> LineFault
         ensures { result ≡ fault_of self }
     {
@@ -93,7 +93,7 @@ impl Stop {
 }
 
 impl LineFault {
-    /// The fault of the line of that number in a text.
+    /// Returns the fault of the line of that number in a text.
     pub(crate) fn in_line(self, line: u64) -> LratFault
         ensures { result ≡ in_line self line }
     {

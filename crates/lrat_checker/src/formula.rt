@@ -29,14 +29,18 @@ pub struct LratFormula {
 impl LratFormula {
     ghost use Rattle.lrat_checker.specs.Standing.{HoldsFormula, HoldsLittle, IsReady, has_failed, lacks_clause};
 
-    /// No clause. It takes no memory yet for those to come, beside some.
+    /// Returns a formula without clauses. Allocates only the fixed part of its tables.
+    ///
+    /// # Errors
+    ///
+    /// `AllocError` if memory runs out.
     pub fn new(alloc: Global) -> Result<LratFormula, AllocError>
         ensures { IfOk result (λ made. HoldsFormula [] made) }
     {
         LratFormula::with_room(alloc, 0)
     }
 
-    /// No clause, with room for this many.
+    /// Returns a formula without clauses, with slots for this many.
     fn with_room(alloc: Global, room: usize) -> Result<LratFormula, AllocError>
         ensures { IfOk result (λ made. HoldsFormula [] made) }
     {
@@ -49,7 +53,11 @@ impl LratFormula {
         })
     }
 
-    /// The clauses of a formula that stands in memory.
+    /// Returns the clauses of a formula that is in memory.
+    ///
+    /// # Errors
+    ///
+    /// `AllocError` if memory runs out.
     pub fn of(alloc: Global, formula: &CnfFormula) -> Result<LratFormula, AllocError>
         ensures { IfOk result (λ made. HoldsFormula formula.now made) }
     {
@@ -60,8 +68,12 @@ impl LratFormula {
         Ok(made)
     }
 
-    /// The clauses of a text in DIMACS CNF, the whole of it, or its first fault. They stand here
-    /// alone.
+    /// Reads a whole formula as DIMACS text and returns its clauses, which are stored only here.
+    ///
+    /// # Errors
+    ///
+    /// The first fault of the text, a failed read or out of memory. The clauses before it are
+    /// dropped.
     pub fn read<F: Read + Drop>(alloc: Global, cnf: F) -> Result<LratFormula, DimacsFault>
         ensures whole { IfOk result (λ made. (formula : List (List ℕ))
             × IsOutcome (option_map outcome_of (F.remaining cnf)) (formula, Ended)
@@ -83,9 +95,12 @@ impl LratFormula {
         Ok(made)
     }
 
-    /// One clause more.
+    /// Adds a clause after all others.
     ///
-    /// After a clause that was not taken every later call answers that fault.
+    /// # Errors
+    ///
+    /// `AllocError` if memory runs out; every later call returns it too, and no checker over these
+    /// clauses accepts a line.
     pub fn add_clause(&mut self, clause: &[Lit]) -> Result<(), AllocError>
         ensures given { (formula : List (List ℕ)) → HoldsFormula formula self.old
             → OnOk result (HoldsFormula (formula ++ clause.now ∷ []) self.new) }
@@ -107,7 +122,8 @@ impl LratFormula {
         Ok(())
     }
 
-    /// A checker of lines after these clauses. It accepts none after a clause that was not taken.
+    /// Returns a checker of lines after these clauses. It accepts none after a clause that was not
+    /// taken.
     pub fn checker(self) -> LratChecker
         ensures ready { (formula : List (List ℕ)) → HoldsFormula formula self
             → IsReady formula [] result }

@@ -1,4 +1,4 @@
-//! The groups of a line.
+//! The RAT candidates of a line, with their hints.
 ghost use Rattle.std.specs.Prelude.{◌≡◌, map};
 ghost use Rattle.lrat_rules.specs.Lines.{groups};
 ghost use Rattle.lrat_text.specs.Grammar.{hint_of};
@@ -6,14 +6,14 @@ ghost use Rattle.lrat_text.specs.Grammar.{hint_of};
 use lrat_text::Hint;
 use std::marker::Model;
 
-/// A clause that is resolved with the new one, and the hints for it, up to the next group.
+/// A RAT candidate: a clause that is resolved with the new one, and the hints for it.
 #[derive(Clone, Copy)]
 pub(crate) struct Group<'a> {
     pub(crate) id: u64,
     pub(crate) hints: &'a [Hint],
 }
 
-/// The groups of a list of hints that are still to come.
+/// An iterator over the candidates in a list of hints.
 #[derive(Drop)]
 pub(crate) struct Groups<'a> {
     hints: &'a [Hint],
@@ -31,6 +31,7 @@ impl<'a> Model for Groups<'a> {
 }
 
 impl<'a> Groups<'a> {
+    /// Returns the candidates of a list of hints.
     pub(crate) fn of(hints: &'a [Hint]) -> Groups<'a>
         ensures { result ≡ groups (map hint_of hints.now) }
     {

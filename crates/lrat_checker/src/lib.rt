@@ -1,5 +1,5 @@
-//! A checker of LRAT proofs as solvers write them: of lines that add clauses by propagation along
-//! hints, of lines that add redundant clauses with groups of hints, and of deletions.
+//! A checker of LRAT proofs as solvers write them: of lines that add clauses by unit propagation
+//! over hints, of lines that add RAT clauses with candidates, and of deletions.
 #![tactic(auto)]
 
 mod checker;

@@ -1,4 +1,4 @@
-//! The ids whose groups were met.
+//! The ids whose candidates passed.
 ghost use Rattle.std.specs.Prelude.{◌≡◌, ◌+◌, ◌*◌, ◌<◌, ◌≤◌, ℕ, length, max, nat_eq, slice_index, OnOk};
 ghost use Rattle.std.specs.HashSet.{contains};
 ghost use Rattle.clause_table.specs.Room.{spare_places};
@@ -9,15 +9,15 @@ use clause_table::gets_place;
 use std::alloc::{AllocError, Global};
 use std::collections::HashSet;
 
-/// The ids whose groups were met in one line. Near ones have places, where the last line that met
-/// them stands: so nothing is cleared for the next line. Far ones are in a set.
+/// The ids whose candidates passed in one line. Dense ones have slots with the number of the last
+/// line in which they passed, so nothing is cleared for the next line. Sparse ones are in a set.
 #[derive(Drop)]
 pub(crate) struct MetIds {
     alloc: Global,
-    /// By ids: 0, or the last line that met the group.
+    /// By ids: 0, or the last line in which the candidate passed.
     lines: Vec<u32>,
     far: HashSet<u64>,
-    /// Which line it is of those with groups, from 1 on.
+    /// The number of the line among those with candidates, from 1 on.
     line: u32,
     ghost begun: { 0 < line },
     ghost past: { (id : ℕ) → slice_index lines.items id ≤ line },
@@ -26,7 +26,7 @@ pub(crate) struct MetIds {
 impl MetIds {
     ghost use Rattle.lrat_checker.specs.Met.{is_met};
 
-    /// No group was met.
+    /// Returns a set without ids.
     pub(crate) fn new(alloc: Global) -> MetIds
         ensures { is_met result ≡ no_id }
     {
@@ -38,8 +38,8 @@ impl MetIds {
         }
     }
 
-    /// No group was met: another line begins. A set that was large once would cost its size at each
-    /// line, and so grows anew.
+    /// Forgets all candidates: another line begins. A set that was large once would cost its size
+    /// at each line, and so grows anew.
     pub(crate) fn forget(&mut self)
         ensures { is_met self.new ≡ no_id }
     {
@@ -53,7 +53,7 @@ impl MetIds {
         }
     }
 
-    /// Whether the group of an id was met.
+    /// Returns whether the candidate of an id passed.
     pub(crate) fn has(&self, id: u64) -> bool
         ensures { result ≡ is_met self.now id }
     {
@@ -67,8 +67,8 @@ impl MetIds {
         !self.far.is_empty() && self.far.contains(&id)
     }
 
-    /// The group of an id is met. There are places for ids as there are for clauses, of which so
-    /// many were stored.
+    /// Records that the candidate of an id passed. There are slots for ids as for clauses, of which
+    /// `stored` were stored.
     pub(crate) fn insert(&mut self, id: u64, stored: u64) -> Result<(), AllocError>
         ensures met { OnOk result (is_met self.new ≡ add_id id (is_met self.old)) }
         ensures places { length self.new.lines.items

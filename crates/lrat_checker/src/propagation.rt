@@ -25,7 +25,8 @@ pub(crate) enum Ending {
     Stuck(LratCause),
 }
 
-/// Propagates along the hints before the next group, up to the first conflict.
+/// Propagates over the antecedent hints before the next candidate, up to the first conflict.
+/// Returns how it ended.
 pub(crate) fn propagate(
     clauses: &Clauses,
     values: &mut Values,

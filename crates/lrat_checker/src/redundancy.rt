@@ -21,7 +21,7 @@ use lrat_text::Hint;
 use sat_formula::Lit;
 use std::alloc::AllocError;
 
-/// Whether the groups among the hints show that the clause is redundant by its first literal.
+/// Checks that the candidates among the hints show that the clause is RAT on its pivot.
 pub(crate) fn check_groups(
     clauses: &Clauses,
     work: &mut Work,
@@ -48,7 +48,7 @@ pub(crate) fn check_groups(
     Ok(())
 }
 
-/// How often a literal stands in the clauses that the groups meet.
+/// Returns how often a literal is in the clauses of the candidates, all of which pass.
 fn meet_groups(clauses: &Clauses, work: &mut Work, lit: Lit, hints: &[Hint]) -> Result<u64, Stop>
     ensures ok { let given = groups (map hint_of hints.now) in
         let lits = among work.old.values in
@@ -68,7 +68,7 @@ fn meet_groups(clauses: &Clauses, work: &mut Work, lit: Lit, hints: &[Hint]) -> 
     Ok(met)
 }
 
-/// How often a literal stands in the clause of a group, or 0 where that one was met before.
+/// Returns how often a literal is in the clause of a candidate, or 0 if that one passed before.
 fn meet_group(clauses: &Clauses, work: &mut Work, lit: Lit, group: Group<'_>) -> Result<u64, Stop>
     ensures ok { IfOk result (λ more. (met : ℕ) (gs : List rules.Group)
         → met_by_groups (table_of clauses.now).named (among work.old.values) lit
@@ -98,8 +98,8 @@ fn meet_group(clauses: &Clauses, work: &mut Work, lit: Lit, group: Group<'_>) ->
     Ok(count)
 }
 
-/// Whether a clause without one literal has a true one, or the hints lead to a conflict with all
-/// of them false.
+/// Returns whether a clause without one literal has a true one, or the hints lead to a conflict
+/// with all of them false.
 fn is_met(
     clauses: &Clauses,
     values: &mut Values,
@@ -122,7 +122,7 @@ fn is_met(
     Ok(matches!(ending, Ending::Conflict))
 }
 
-/// How often a literal stands in a clause.
+/// Returns how often a literal is in a clause.
 fn count_of(clause: &[Lit], lit: Lit) -> u64
     ensures { result ≡ count_of lit clause.now }
 {
@@ -135,7 +135,7 @@ fn count_of(clause: &[Lit], lit: Lit) -> u64
     count
 }
 
-/// What is missing, where there are groups and where there is none.
+/// Returns what is missing, with candidates and without.
 fn missing_cause(hints: &[Hint]) -> LratCause
     ensures { cause_of result ≡ missing (groups (map hint_of hints.now)) }
 {

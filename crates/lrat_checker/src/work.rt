@@ -3,7 +3,7 @@ use crate::met::MetIds;
 use clause_table::Values;
 use std::alloc::Global;
 
-/// The literals that are true, and the ids whose groups were met.
+/// The assignment, and the ids whose candidates passed.
 #[derive(Drop)]
 pub(crate) struct Work {
     pub(crate) values: Values,
@@ -11,6 +11,7 @@ pub(crate) struct Work {
 }
 
 impl Work {
+    /// Returns an empty assignment, and no ids. Allocates no memory.
     pub(crate) fn new(alloc: Global) -> Work {
         Work {
             values: Values::new(alloc),

@@ -14,14 +14,14 @@ pub fn runs_keep_models()
     ensures { RunsKeepModels }
 {}
 
-/// Where the empty clause was accepted, or is one of the formula's, no assignment satisfies the
+/// If the empty clause was accepted, or is one of the formula's, no assignment satisfies the
 /// formula.
 pub fn runs_refute()
     ensures { RunsRefute }
 {}
 
-/// Where no clause was added by its pivot, every assignment that satisfies the formula satisfies
-/// all that is stored.
+/// If no clause was added by its pivot, every assignment that satisfies the formula satisfies all
+/// that is stored.
 pub fn rup_runs_follow()
     ensures { RupRunsFollow }
 {}
@@ -31,12 +31,12 @@ pub fn lrat_rows()
     ensures { LratRows }
 {}
 
-/// Lines on small stores, with the causes for which they are refused.
+/// Lines on small stores, with the causes for which they are rejected.
 pub fn further_lrat_rows()
     ensures { FurtherLratRows }
 {}
 
-/// The stored clauses that must be met are those that ids name.
+/// The stored clauses that must be candidates are those that ids name.
 pub fn met_by_map()
     ensures { MetByMap }
 {}
@@ -46,7 +46,7 @@ pub fn map_decides()
     ensures { MapDecides }
 {}
 
-/// Hints that the hint machine admits are accepted as a line without groups.
+/// Hints that the hint machine admits are accepted as a line without candidates.
 pub fn admitted_is_rup()
     ensures { AdmittedIsRup }
 {}
@@ -56,12 +56,12 @@ pub fn rat_resolves()
     ensures { RatResolves }
 {}
 
-/// A line has a cause for which it is refused exactly where it is not accepted.
+/// A line has a cause for which it is rejected exactly where it is not accepted.
 pub fn causes_are_exact()
     ensures { CausesAreExact }
 {}
 
-/// Groups that meet a literal as often as it is stored leave no clause out.
+/// Candidates that have a literal as often as it is stored leave no clause out.
 pub fn counts_cover()
     ensures { CountsCover }
 {}

@@ -9,8 +9,8 @@ use thiserror::Error;
 /// What is wrong with a line.
 #[derive(Clone, Copy, Debug, PartialEq, Eq, Error)]
 pub enum LineKind {
-    /// A word that is no number where one is due, a number that can't stand there, a 0 that is
-    /// missing where the line ends, or a word after its last 0.
+    /// A word that is no number where one is expected, a number that is not allowed there, a
+    /// missing 0 at the end of the line, or a word after its last 0.
     #[error("malformed line")]
     Malformed,
     /// An id or a hint of 2^64 or more, or a variable above `Var::MAX_COUNT`.
@@ -27,7 +27,7 @@ pub enum LratTextFault {
     /// A read failed, or the text is longer than any that is read.
     #[error("error reading proof: {0}")]
     Read(io::Error),
-    /// The first fault of the text, and the line in which it stands; lines count from 1.
+    /// The first fault of the text, and its line; lines count from 1.
     #[error("line {line}: {kind}")]
     Line { line: u64, kind: LineKind },
     /// There was no memory for a line or for the bytes read ahead.

@@ -11,11 +11,11 @@ use crate::line::Hint;
 use crate::number::{Number, any_number, short_number};
 use sat_formula::Lit;
 
-/// What stands in a list, by the number that says it.
+/// What is in a list, by the number that says it.
 pub(crate) trait Item: Copy {
     ghost said: { Number → Result (Option Self) LineKind };
 
-    /// An item, or none at the 0 that ends the list.
+    /// Returns an item, or none at the 0 that ends the list.
     fn of(number: Number) -> Result<Option<Self>, LineKind>
         ensures { result ≡ said number };
 }
@@ -75,7 +75,7 @@ impl Item for u64 {
     }
 }
 
-/// Reads a list to its 0 in place of what `into` held, and answers what follows it. `short` is the
+/// Reads a list to its 0 in place of what `into` held, and returns what follows it. `short` is the
 /// fault of a list whose 0 is missing.
 pub(crate) fn read_items<'a, T: Item>(
     bytes: &'a [u8],
@@ -90,7 +90,7 @@ pub(crate) fn read_items<'a, T: Item>(
     into.clear();
     let mut rest = bytes;
     'words: loop {
-        // apart, since what a call answers in memory is set to zero before it
+        // apart, since what a call returns in memory is set to zero before it
         if let Some((number, after)) = short_number(rest) {
             match T::of(number)? {
                 Some(item) => into.push(item)?,

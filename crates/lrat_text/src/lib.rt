@@ -1,4 +1,7 @@
 //! LRAT text, as solvers write it: a line adds a clause with its hints, or deletes clauses.
+//!
+//! Source: Cruz-Filipe, Heule, Hunt, Kaufmann, Schneider-Kamp, Efficient Certified RAT
+//! Verification, CADE 2017.
 #![tactic(auto)]
 
 mod fault;

@@ -10,7 +10,7 @@ pub enum Hint {
     Against(u64),
 }
 
-/// A line. Its lists stand in the reader.
+/// A line. Its lists are in the reader.
 #[derive(Clone, Copy, Debug, PartialEq, Eq)]
 pub enum LratLine<'a> {
     /// A clause is added under this id, by these hints.

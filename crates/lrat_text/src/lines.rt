@@ -14,7 +14,7 @@ use std::io::Read;
 /// How many bytes of a text are taken at most, so that its lines can be counted.
 const MOST_BYTES: u64 = u64::MAX - 1;
 
-/// A text of which the last line that was taken is held.
+/// A text with the last line that was taken.
 #[derive(Drop)]
 pub(crate) struct Lines<R> {
     source: Source<R>,
@@ -26,6 +26,7 @@ impl<R: Read> Lines<R> {
     ghost use Rattle.sat_formula.specs.Source.{ahead_of, IsStopped, IsErrorOf};
     ghost use Rattle.lrat_text.specs.Holding.{unread_lines, room_in, HoldsLine};
 
+    /// Returns the lines of a reader. Reads nothing yet.
     pub(crate) fn new(alloc: Global, inner: R) -> Lines<R>
         ensures bytes { unread_lines R.remaining result ≡ R.remaining inner }
         ensures room { room_in result ≡ 2 ^ 64 - 2 }
@@ -36,7 +37,7 @@ impl<R: Read> Lines<R> {
         }
     }
 
-    /// The error of a stop by the source.
+    /// Returns the error of a stop by the source.
     pub(crate) fn error(&self) -> io::Error
         requires { IsStopped self.now.source }
         ensures { IsErrorOf self.now.source result }
@@ -44,14 +45,14 @@ impl<R: Read> Lines<R> {
         self.source.error()
     }
 
-    /// The line that is held.
+    /// Returns the last line that was taken.
     pub(crate) fn held(&self) -> &[u8]
         ensures { result.now ≡ self.now.held.items }
     {
         &self.held
     }
 
-    /// The next line with its LF, where all of it stands ahead.
+    /// Returns the next line with its LF, if all of it was read ahead.
     pub(crate) fn whole_ahead(&self) -> Option<&[u8]>
         ensures line { IfSome result (λ line. IsLine line.now) }
         ensures ahead { IfSome result (λ line.
@@ -63,7 +64,7 @@ impl<R: Read> Lines<R> {
         Some(&ahead[..len + 1])
     }
 
-    /// Takes a line of this length, which stands ahead.
+    /// Takes a line of this length, which was read ahead.
     pub(crate) fn take_line(&mut self, len: usize)
         requires some { 0 < len }
         requires ahead { len ≤ length (ahead_of self.old.source) }
@@ -75,7 +76,7 @@ impl<R: Read> Lines<R> {
         self.source.take_ahead(len);
     }
 
-    /// Takes the next line, holds it without its LF, and answers whether an LF ended it.
+    /// Takes the next line, keeps it without its LF, and returns whether an LF ended it.
     pub(crate) fn hold(&mut self) -> Result<bool, Stop>
         ensures line { let old = unread_lines R.remaining self.old in
             let new = unread_lines R.remaining self.new in
@@ -97,7 +98,7 @@ impl<R: Read> Lines<R> {
         }
     }
 
-    /// Puts an LF behind the line that is held, whether it had one or not.
+    /// Appends an LF to the last line that was taken, whether it had one or not.
     pub(crate) fn end_held(&mut self) -> Result<(), Stop>
         ensures source { self.new.source ≡ self.old.source }
         ensures ok { OnOk result (self.new.held.items ≡ self.old.held.items ++ 10 ∷ []) }

@@ -24,6 +24,7 @@ pub(crate) enum Number {
 }
 
 impl Number {
+    /// Returns the number of a word: digits, after a `-` or not.
     pub(crate) fn of(word: &[u8]) -> Number
         ensures { result ≡ number_of word.now }
     {
@@ -33,7 +34,7 @@ impl Number {
         }
     }
 
-    /// The number with which a line begins.
+    /// Returns the number with which a line begins.
     pub(crate) fn first(self) -> Result<u64, LineKind>
         ensures { result ≡ first_said self }
     {
@@ -48,7 +49,7 @@ impl Number {
     }
 }
 
-/// What digits say, after a `-` or not.
+/// Returns what digits say, after a `-` or not.
 fn judged(negative: bool, digits: &[u8]) -> Number
     ensures { result ≡ judged negative (value_of digits.now) }
 {
@@ -75,7 +76,7 @@ fn judged(negative: bool, digits: &[u8]) -> Number
     }
 }
 
-/// The value with one more digit, where it fits.
+/// Returns the value with one more digit, if it fits.
 #[inline(always)]
 fn with_digit(value: u64, digit: u8) -> Option<u64>
     ensures { result ≡ capped (value * 10 + digit) }
@@ -83,7 +84,7 @@ fn with_digit(value: u64, digit: u8) -> Option<u64>
     value.checked_mul(10)?.checked_add(digit as u64)
 }
 
-/// The first word as a number, and what follows it.
+/// Returns the first word as a number, and what follows it.
 #[inline(always)]
 pub(crate) fn split_number(bytes: &[u8]) -> Option<(Number, &[u8])>
     requires { IsLine bytes.now }
@@ -98,7 +99,7 @@ pub(crate) fn split_number(bytes: &[u8]) -> Option<(Number, &[u8])>
     any_number(bytes)
 }
 
-/// The first word as a number, and what follows it, whatever stands there.
+/// Returns the first word as a number, and what follows it, whatever that is.
 #[inline(never)]
 pub(crate) fn any_number(bytes: &[u8]) -> Option<(Number, &[u8])>
     requires { IsLine bytes.now }
@@ -111,7 +112,8 @@ pub(crate) fn any_number(bytes: &[u8]) -> Option<(Number, &[u8])>
     Some((Number::of(word), skip_blanks(rest)))
 }
 
-/// The first number and what is after it, in one pass, where the bytes begin with few digits.
+/// Returns the first number and what is after it, in one pass, where the bytes begin with few
+/// digits.
 #[inline(always)]
 pub(crate) fn short_number(bytes: &[u8]) -> Option<(Number, &[u8])>
     requires { IsLine bytes.now }
@@ -132,8 +134,8 @@ pub(crate) fn short_number(bytes: &[u8]) -> Option<(Number, &[u8])>
     Some((Number::Exact { negative, value }, rest))
 }
 
-/// The value of a word of few digits in front, and what follows it. A space after it is passed
-/// over.
+/// Returns the value of a word of few digits in front, and what follows it. A space after it is
+/// passed over.
 #[inline(always)]
 fn digits_word(bytes: &[u8]) -> Option<(u64, &[u8])>
     requires { IsLine bytes.now }
@@ -153,8 +155,8 @@ fn digits_word(bytes: &[u8]) -> Option<(u64, &[u8])>
     Some((value, &bytes[len..]))
 }
 
-/// The value of the digits in front, at most ten, and how many they are. The bound is a constant,
-/// so no count is kept, and the LF ends them, so no length is compared.
+/// Returns the value of the digits in front, at most ten, and how many they are. The bound is a
+/// constant, so no count is kept, and the LF ends them, so no length is compared.
 #[inline(always)]
 fn leading_digits(bytes: &[u8]) -> (u64, usize)
     requires { IsLine bytes.now }

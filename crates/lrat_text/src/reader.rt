@@ -34,7 +34,7 @@ impl<R: Read> LineReader<R> {
     ghost use Rattle.lrat_text.specs.Reading.{line_of};
     ghost use Rattle.lrat_text.specs.contracts.reader.LineReader.{the_row};
 
-    /// A reader at the start of a text. It takes no memory and reads nothing yet.
+    /// Returns a reader at the start of a text. It takes no memory and reads nothing yet.
     pub fn new(alloc: Global, inner: R) -> LineReader<R>
         ensures bytes { bytes_left R.remaining result ≡ R.remaining inner }
         ensures room { room_left result ≡ 2 ^ 64 - 2 }
@@ -49,19 +49,22 @@ impl<R: Read> LineReader<R> {
         }
     }
 
-    /// The number of the line that was given last, or in which the text ended or had its fault;
-    /// lines count from 1. It is 0 before the first, and stays at `u64::MAX`.
+    /// Returns the number of the line that was given last, or in which the text ended or had its
+    /// fault; lines count from 1. It is 0 before the first, and stays at `u64::MAX`.
     pub fn line(&self) -> u64
         ensures { result ≡ line_number self.now }
     {
         self.number
     }
 
-    /// The next line, or none at the end of the text.
+    /// Reads the next line and returns it, or `None` at the end of the text. Its lists are in the
+    /// reader and are valid until the next call.
     ///
-    /// The line's lists stand in the reader and serve until the next call. A read that fails is not
-    /// tried again, and what was not read to the end of its line is not judged. After the end or a
-    /// fault every call answers that there is no line, and nothing more is read.
+    /// # Errors
+    ///
+    /// `Line` for a line that is malformed, `Read` if a read failed, which is not retried, or
+    /// `OutOfMemory`. A line that was cut by a failed read is not judged. After the end or an error
+    /// every call returns `Ok(None)` and reads nothing more.
     pub fn next_line(&mut self) -> Result<Option<LratLine<'_>>, LratTextFault>
         ensures after_end { has_ended self.old ≡ true → result ≡ Ok None }
         ensures* after_borrow { sem 𝓛 (Rests (the_row R.row) self.entry
@@ -90,7 +93,7 @@ impl<R: Read> LineReader<R> {
         Ok(None)
     }
 
-    /// Reads one line, whatever it says.
+    /// Reads one line.
     fn one_line(&mut self) -> Result<Option<Head>, Stop>
         ensures judged { JudgesLine R.remaining self.old self.new result }
         ensures counts { CountsLine self.old self.new result }
@@ -107,7 +110,7 @@ impl<R: Read> LineReader<R> {
         said
     }
 
-    /// Reads a line that does not stand ahead whole.
+    /// Reads a line that was not read ahead whole.
     fn held_line(&mut self) -> Result<Option<Head>, Stop>
         ensures judged { JudgesLine R.remaining self.old self.new result }
         ensures counts { CountsLine self.old self.new result }
@@ -136,7 +139,7 @@ impl<R: Read> LineReader<R> {
         self.ended = ended;
     }
 
-    /// Ends, and answers the fault of a stop.
+    /// Ends, and returns the fault of a stop.
     fn stopped(&mut self, stop: Stop) -> LratTextFault
         requires { stop ≡ Stop.Read → IsStopped self.old.lines.source }
         ensures fault { Explains self.old.lines.source self.old.number stop result }

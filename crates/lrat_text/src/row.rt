@@ -32,7 +32,7 @@ impl Row {
     ghost use Rattle.lrat_text.specs.Reading.{ReadsAs, line_of, line_if};
     ghost use Rattle.lrat_text.specs.NextLine.{view};
 
-    /// Empty lists.
+    /// Returns empty lists. Allocates no memory.
     pub fn new(alloc: Global) -> Row {
         Row {
             lits: Vec::new(alloc),
@@ -41,7 +41,7 @@ impl Row {
         }
     }
 
-    /// The line of a head and the lists that were read with it.
+    /// Returns the line of a head and the lists that were read with it.
     pub fn shown(&self, head: Head) -> LratLine<'_>
         ensures { view result ≡ line_of self.now head }
     {
@@ -55,8 +55,8 @@ impl Row {
         }
     }
 
-    /// Reads a line of these bytes, if it says anything. `short` is the fault of a line that ends
-    /// before its last 0.
+    /// Reads a line of these bytes, and returns its kind, or `None` if it is blank. `short` is the
+    /// fault of a line that ends before its last 0.
     pub(crate) fn read(&mut self, bytes: &[u8], short: LineKind) -> Result<Option<Head>, Stop>
         requires { IsLine bytes.now }
         ensures { ReadsAs (line_if self.new) (says short (words_in bytes.now)) result }

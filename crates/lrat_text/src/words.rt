@@ -1,11 +1,11 @@
-//! The words of a line: what stands between blanks, up to the LF.
+//! The words of a line: the bytes between blanks, up to the LF.
 ghost use Rattle.std.specs.Prelude.{◌≡◌, ℕ, ◌<◌, ◌≤◌, ◌∷◌, [], length, slice_index, true, false, IfSome, IfNone};
 ghost use Rattle.sat_formula.specs.Bytes.{is_blank};
 ghost use Rattle.lrat_text.specs.Bytes.{IsLine, ends_word, words_in};
 
 use sat_formula::bytes::{ends_word, is_blank};
 
-/// The first word, and what follows it.
+/// Returns the first word, and what follows it.
 pub(crate) fn split_word(bytes: &[u8]) -> Option<(&[u8], &[u8])>
     requires { IsLine bytes.now }
     ensures word { IfSome result (λ r. words_in bytes.now ≡ r.0.now ∷ words_in r.1.now) }
@@ -21,7 +21,7 @@ pub(crate) fn split_word(bytes: &[u8]) -> Option<(&[u8], &[u8])>
     Some((&word[..len], &word[len..]))
 }
 
-/// What follows the blanks in front. The LF ends it, so no length is compared.
+/// Returns what follows the blanks in front. The LF ends it, so no length is compared.
 pub(crate) fn skip_blanks(bytes: &[u8]) -> &[u8]
     requires { IsLine bytes.now }
     ensures line { IsLine result.now }
@@ -36,7 +36,7 @@ pub(crate) fn skip_blanks(bytes: &[u8]) -> &[u8]
     rest
 }
 
-/// How many bytes stand before the first blank or the LF.
+/// Returns how many bytes precede the first blank or the LF.
 fn word_len(bytes: &[u8]) -> usize
     requires { IsLine bytes.now }
     ensures len { result < length bytes.now }

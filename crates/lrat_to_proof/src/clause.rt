@@ -6,7 +6,7 @@ ghost use Rattle.lrat_to_proof.specs.Holding.{is_named};
 use checker_parts::sorted_lits::has_rising_vars;
 use sat_formula::Lit;
 
-/// Whether a literal and its negation stand in the list, as neighbours.
+/// Returns whether a literal and its negation are in the list, as neighbours.
 #[tactic(auto, using(crate::proofs::HoldingLemmas::not_rising))]
 pub(crate) fn is_tautology(lits: &[Lit]) -> bool
     requires { IsTrue (is_canonical lits.now) }
@@ -15,7 +15,7 @@ pub(crate) fn is_tautology(lits: &[Lit]) -> bool
     !has_rising_vars(lits)
 }
 
-/// Whether a step can name the clause by its hash.
+/// Returns whether a step can name the clause by its hash.
 #[tactic(auto, using(crate::proofs::HoldingLemmas::not_rising))]
 pub(crate) fn is_named(lits: &[Lit]) -> bool
     requires { IsTrue (is_canonical lits.now) }

@@ -7,15 +7,15 @@ use verdicts::Claims;
 /// How a conversion ends.
 #[derive(Clone, Copy, Debug, PartialEq, Eq)]
 pub enum Conversion {
-    /// The lines come to the empty clause, or to two opposite units: a checker that accepts the
-    /// proof finds the formula unsatisfiable.
+    /// The lines derive the empty clause, or two opposite units: a checker that accepts the proof
+    /// finds the formula unsatisfiable.
     Refuted,
     /// The lines end before that.
     Open,
 }
 
 impl Conversion {
-    /// By whether the empty clause or two opposite units came.
+    /// Returns the result by whether the empty clause or two opposite units were derived.
     pub(crate) fn of(refuted: bool) -> Conversion
         ensures { result ≡ conversion_of refuted }
     {
@@ -27,7 +27,7 @@ impl Conversion {
     }
 }
 
-/// A conversion is asked for a proof that comes to the empty clause.
+/// A conversion claims a proof that derives the empty clause.
 impl Claims for Conversion {
     ghost claimed = { shows_unsat };
 

@@ -14,7 +14,7 @@ use sat_formula::{CnfFormula, Lit};
 use std::alloc::Global;
 use std::io::Write;
 
-/// What stands between the lines: the clauses so far, and the writer of steps.
+/// The state between lines: the clauses so far, and the writer of steps.
 #[derive(Drop)]
 pub(crate) struct Converter {
     hasher: ClauseHasher,
@@ -37,7 +37,8 @@ impl Converter {
     ghost use Rattle.lrat_to_proof.specs.Standing.{HasBegun, HasConverted, HasWritten, Reaches, StopsIn, holding_of};
     ghost use Rattle.lrat_to_proof.specs.Widths.{bits_of};
 
-    /// Before the first line. A width is set where it has to be.
+    /// Returns a converter before the first line. Writes the width of hashes, if it is not the full
+    /// one.
     pub(crate) fn new<W: Write>(
         alloc: Global,
         formula: &CnfFormula,
@@ -64,14 +65,15 @@ impl Converter {
         })
     }
 
-    /// Whether no further line is wanted: the empty clause or two opposite units came.
+    /// Returns whether no further line is needed: the empty clause or two opposite units were
+    /// derived.
     pub(crate) fn is_done(&self) -> bool
         ensures { result ≡ (holding_of self.now.held).refuted }
     {
         self.held.is_refuted()
     }
 
-    /// Writes the steps of one line more. Nothing is written of a line that the rules refuse.
+    /// Writes the steps of one line more. Nothing is written of a line that the rules reject.
     pub(crate) fn take_line<W: Write>(
         &mut self,
         line: LratLine<'_>,

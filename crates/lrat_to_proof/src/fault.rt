@@ -20,7 +20,7 @@ pub enum LineCause {
     /// No clause is stored under the id of a hint.
     #[error("no clause has the id of a hint")]
     UnknownId,
-    /// A hint begins a group of a RAT step, for which there is no step.
+    /// A candidate hint of a RAT step, for which there is no proof step.
     #[error("RAT steps can't be converted")]
     RatGroup,
 }
@@ -43,7 +43,7 @@ pub enum ConvertFault {
     /// A write failed.
     #[error("error writing: {0}")]
     Write(io::Error),
-    /// There was no memory for what is held, for a line or for its steps.
+    /// There was no memory for the clauses, for a line or for its steps.
     #[error("out of memory")]
     OutOfMemory,
 }
@@ -63,7 +63,7 @@ pub(crate) enum Stop {
 }
 
 impl Stop {
-    /// The fault of the line of that number.
+    /// Returns the fault of the line of that number.
     pub(crate) fn in_line(self, line: u64) -> ConvertFault
         ensures { result ≡ in_line self line }
     {
@@ -86,7 +86,7 @@ impl From<GivenUp> for ConvertFault {
 }
 
 impl ConvertFault {
-    /// Why a proof gives no line.
+    /// Returns the fault of a proof whose next line can't be read.
     pub(crate) fn unread(fault: LratTextFault) -> ConvertFault
         ensures { result ≡ of_text fault }
     {

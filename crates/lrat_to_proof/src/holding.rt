@@ -14,7 +14,7 @@ use std::alloc::{AllocError, Global};
 use std::collections::HashSet;
 
 /// The clauses by their ids, the literals that are units, and whether the empty clause or two
-/// opposite units came.
+/// opposite units were derived.
 #[derive(Drop)]
 pub(crate) struct Holding {
     clauses: NamedClauses,
@@ -29,7 +29,7 @@ pub(crate) struct Holding {
 impl Holding {
     ghost use Rattle.lrat_to_proof.specs.Standing.{entry_of, holding_of, is_derived, units_of};
 
-    /// The clauses of a formula under 1, 2 and so on.
+    /// Returns the clauses of a formula under 1, 2 and so on.
     pub(crate) fn new(alloc: Global, formula: &CnfFormula) -> Result<Holding, AllocError>
         ensures { IfOk result (λ made. holding_of made ≡ formula_holding formula.now) }
     {
@@ -49,14 +49,14 @@ impl Holding {
         Ok(made)
     }
 
-    /// Whether the empty clause or two opposite units came.
+    /// Returns whether the empty clause or two opposite units were derived.
     pub(crate) fn is_refuted(&self) -> bool
         ensures { result ≡ (holding_of self.now).refuted }
     {
         self.refuted
     }
 
-    /// The clause of an id, where it is there.
+    /// Returns the clause of an id, if it is there.
     pub(crate) fn get(&self, id: u64) -> Option<&[Lit]>
         ensures entry { option_map (entry_of (is_derived self.now id)) (option_copied result)
             ≡ (holding_of self.now).entries id }
@@ -65,7 +65,7 @@ impl Holding {
         self.clauses.get(id)
     }
 
-    /// The clause of an id, where a line added it.
+    /// Returns the clause of an id, where a line added it.
     pub(crate) fn derived(&self, id: u64) -> Option<&[Lit]>
         ensures deletion { deletion (option_map (entry_of true) (option_copied result))
             ≡ deletion ((holding_of self.now).entries id) }
@@ -77,15 +77,15 @@ impl Holding {
         self.clauses.get(id)
     }
 
-    /// Whether the id names a clause.
+    /// Returns whether the id names a clause.
     pub(crate) fn contains(&self, id: u64) -> bool
         ensures { result ≡ is_some ((holding_of self.now).entries id) }
     {
         self.get(id).is_some()
     }
 
-    /// Stores a canonical list under an id, and whether a line added it. After an error what is
-    /// held is of no use.
+    /// Stores a canonical list under an id, and whether a line added it. After an error the clauses
+    /// are unspecified.
     pub(crate) fn put(&mut self, id: u64, derived: bool, lits: &[Lit]) -> Result<(), AllocError>
         requires { IsTrue (is_canonical lits.now) }
         ensures { OnOk result (holding_of self.new
@@ -117,7 +117,7 @@ impl Holding {
         Ok(())
     }
 
-    /// Removes the clause of an id, where it is there.
+    /// Removes the clause of an id, if it is there.
     pub(crate) fn remove(&mut self, id: u64)
         ensures { holding_of self.new ≡ drop_entry id (holding_of self.old) }
     {

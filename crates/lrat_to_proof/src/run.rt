@@ -17,16 +17,19 @@ use std::alloc::Global;
 use std::io::{Read, Write};
 use whole_formulas::read_formula;
 
-/// Writes the lines of an LRAT proof after a formula as proof bytes of version 2, up to the first
-/// line that adds the empty clause or the opposite of a unit. What stands after that line is not
-/// read.
+/// Writes the lines of an LRAT proof over a formula as proof bytes of version 2, up to the first
+/// line that adds the empty clause or the opposite of a unit. What follows that line is not read.
+/// Returns whether there was such a line.
 ///
-/// The proof is text or binary, as its first bytes tell. How the ids stand in binary lines is told
-/// by them too, where `ids` does not say it.
+/// The proof is text or binary, as detected from its first bytes. The encoding of ids in binary
+/// lines is detected from them too, unless `ids` gives it. Lines are read and written one by one.
+/// Whether the added clauses follow is not judged: the checker that reads the bytes does that.
 ///
-/// Lines are read and written one after the other. Whether the added clauses follow is not judged:
-/// that is for the checker that reads the bytes. Where a write fails or memory runs out, a
-/// beginning of the proof's bytes is written, all of it where only the last flush failed.
+/// # Errors
+///
+/// `Unread` and `Refused` for the first line that can't be read or converted, `Read` and `Write`
+/// for a failed read or write, `OutOfMemory`. A beginning of the proof's bytes is written then, all
+/// of it if only the last flush failed.
 pub fn convert_proof<P: Read + Drop, W: Write>(
     alloc: Global,
     formula: &CnfFormula,
@@ -45,10 +48,15 @@ pub fn convert_proof<P: Read + Drop, W: Write>(
     Ok(Conversion::of(converter.is_done()))
 }
 
-/// Reads a formula in DIMACS CNF, and writes the lines of an LRAT proof as above.
+/// Reads a formula in DIMACS CNF, and converts an LRAT proof as `convert_proof` does.
 ///
-/// The proof is read only once the formula was read whole. `lie` tells what the formula's header
-/// lies about; where the formula can't be read that is nothing.
+/// The proof is read only after the whole formula. `lie` gets the mismatch of the formula's header,
+/// if there is one.
+///
+/// # Errors
+///
+/// `Formula` if the formula can't be read, with nothing written and `lie` `None`; else as for
+/// `convert_proof`.
 pub fn convert<F: Read + Drop, P: Read + Drop, W: Write>(
     alloc: Global,
     cnf: F,
@@ -68,8 +76,8 @@ pub fn convert<F: Read + Drop, P: Read + Drop, W: Write>(
     }
 }
 
-/// The lines of a proof, after a formula of this many clauses. Nothing is read where no line is
-/// wanted.
+/// Converts the lines of a proof after a formula of this many clauses. Nothing is read if no line
+/// is needed.
 fn convert_lines<P: Read + Drop, W: Write>(
     alloc: Global,
     converter: &mut Converter,
@@ -92,7 +100,7 @@ fn convert_lines<P: Read + Drop, W: Write>(
     }
 }
 
-/// The lines that a reader gives, up to one after which no further line is wanted.
+/// Converts the lines of a reader, up to one after which no further line is needed.
 fn take_lines<R: Read, W: Write>(
     converter: &mut Converter,
     reader: &mut LratReader<R>,

@@ -25,7 +25,7 @@ pub(crate) struct StepWriter {
 }
 
 impl StepWriter {
-    /// A writer that has written nothing.
+    /// Returns a writer that has written nothing.
     pub(crate) fn new(alloc: Global) -> StepWriter
         ensures { (start : Option (List ℕ)) → HasWritten start start [] result }
     {

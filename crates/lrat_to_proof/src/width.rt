@@ -14,14 +14,14 @@ impl HashWidth {
     ghost use Rattle.std.specs.Option.{option_map};
     ghost use Rattle.lrat_to_proof.specs.Widths.{bits_of};
 
-    /// The width of a proof that sets none: 64 bits.
+    /// Returns the width of a proof that sets none: 64 bits.
     pub fn full() -> HashWidth
         ensures { bits_of result ≡ 64 }
     {
         HashWidth { bits: 64 }
     }
 
-    /// A width of 1 to 64 bits.
+    /// Returns a width of 1 to 64 bits.
     pub fn from_bits(bits: u32) -> Option<HashWidth>
         ensures { SomeIff (option_map bits_of result) ((0 < bits) × (bits ≤ 64)) bits }
     {
@@ -32,7 +32,7 @@ impl HashWidth {
         }
     }
 
-    /// How many bits.
+    /// Returns how many bits.
     pub fn bits(self) -> u32
         ensures { result ≡ bits_of self }
     {

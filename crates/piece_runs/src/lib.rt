@@ -1,5 +1,5 @@
-//! What runs over a piece of a proof have in common: what they say of the texts of two formulas,
-//! and what they tell of a clause that is missing.
+//! What runs over a piece of a proof have in common: what their verdicts say of the texts of two
+//! formulas, and the report of a clause that is missing.
 #![tactic(auto)]
 
 mod missing;

@@ -1,12 +1,12 @@
-//! A clause that is missing behind a piece.
+//! A clause that is missing at the end of a piece.
 use sat_formula::Lit;
 use std::fmt;
 use std::fmt::{Display, Formatter};
 
-/// A clause that is wanted behind a piece and is not there.
+/// A target clause of a piece that is missing at its end.
 #[derive(Drop)]
 pub struct MissingClause {
-    /// Its number among the wanted ones, from 1.
+    /// Its number among the target clauses, from 1.
     pub number: u64,
     pub lits: Vec<Lit>,
 }

@@ -1,4 +1,4 @@
-//! A reader that tells how many bytes it has given.
+//! A reader that reports how many bytes it has returned.
 ghost use Rattle.std.specs.Prelude.{◌≡◌};
 ghost use Rattle.std.specs.Io.{ReadsAtMost};
 ghost use Rattle.std.specs.Io.KnownBytes.{ReadConsumes};
@@ -10,12 +10,12 @@ use std::io::{Eprint, Read};
 use std::rt::Clock;
 use std::{fmt, io};
 
-/// A read takes no more bytes than this, so that a run that is slow with each of them is told of
-/// often.
+/// A read takes no more bytes than this, so that progress is reported often, even if each byte
+/// takes long.
 const MOST_A_READ: usize = 4096;
 
-/// A reader of a proof, which gives its bytes as they are, and tells how many it has given. Once it
-/// is let go, a line that was to be written anew is taken back.
+/// A reader of a proof, which returns its bytes as they are and reports how many it has returned.
+/// Once it is dropped, a line that is overwritten in place is cleared.
 pub struct ToldBytes<'a, R, H: Eprint + Clock> {
     inner: R,
     progress: &'a Progress<H>,
@@ -28,7 +28,8 @@ pub struct ToldBytes<'a, R, H: Eprint + Clock> {
 impl<'a, R: Read, H: Eprint + Clock> ToldBytes<'a, R, H> {
     ghost use Rattle.progress.specs.Bytes.{unread_of};
 
-    /// A reader at the start of a proof, of this many bytes if that is known. Nothing is read yet.
+    /// Returns a reader at the start of a proof, of this many bytes if that is known. Nothing is
+    /// read yet.
     pub fn new(progress: &'a Progress<H>, inner: R, all: Option<u64>) -> ToldBytes<'a, R, H>
         ensures { unread_of R.remaining result ≡ R.remaining inner }
     {

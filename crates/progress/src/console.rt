@@ -40,8 +40,8 @@ impl<R: Eprint + Clock> Log for AskedLog<'_, R> {
     }
 }
 
-/// What `RUST_LOG` asks for: without it nothing, and nothing is allocated then. Where there is no
-/// memory to read what it is, it asks for nothing.
+/// Returns what `RUST_LOG` asks for: without it nothing, and nothing is allocated then. If there is
+/// no memory to read what it is, it asks for nothing.
 pub(crate) fn asked_for(rt: &HostRuntime) -> Filter {
     if let Err(FillError::NotPresent) = rt.var(SETTING, &mut [0]) {
         return Builder::new(rt.alloc()).build();

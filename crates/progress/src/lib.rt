@@ -1,5 +1,5 @@
-//! What a program tells on standard error of a long run, while it goes on: how far it has come, and
-//! the log that the environment asks for.
+//! What a program prints to standard error during a long run: its progress, and the log that the
+//! environment asks for.
 #![tactic(auto)]
 
 mod bytes;

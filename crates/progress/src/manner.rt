@@ -1,6 +1,6 @@
-//! How a run tells how far it has come.
+//! How a run reports its progress.
 
-/// How a run tells how far it has come.
+/// How a run reports its progress.
 #[derive(Clone, Copy, Debug, PartialEq, Eq)]
 pub enum Manner {
     /// It does not.
@@ -15,8 +15,8 @@ impl Manner {
     ghost use Rattle.std.specs.Prelude.{◌≡◌};
     ghost use Rattle.progress.specs.Manners.{manner_by};
 
-    /// As the options of a call ask, `--quiet` and `--verbose`; where neither does, in one line if
-    /// standard error is a terminal.
+    /// Returns the manner that the options `--quiet` and `--verbose` of a call ask for; without
+    /// either, one line that is overwritten if standard error is a terminal, else none.
     pub fn asked(is_quiet: bool, is_verbose: bool, is_terminal: bool) -> Manner
         ensures { result ≡ manner_by is_quiet is_verbose is_terminal }
     {

@@ -1,4 +1,4 @@
-//! How far a run has come, told at intervals.
+//! Progress of a run, reported at intervals.
 use crate::console::{AskedLog, asked_for};
 use crate::manner::Manner;
 use log::filter::Filter;
@@ -12,17 +12,17 @@ use std::io::{Eprint, IsTerminal};
 use std::rt::Clock;
 use std::time::Duration;
 
-/// This many milliseconds pass at least from one time that it is told to the next.
+/// At least this many milliseconds are between two reports.
 const INTERVAL: u64 = 500;
 
-/// What takes back all that stands in the line of a terminal.
+/// What takes back all that is in the line of a terminal.
 const LINE_TAKEN_BACK: &str = "\r\x1b[K";
 
-/// A log of how far a run has come. Of what is logged it writes to standard error what comes twice
-/// a second, and passes over the rest.
+/// A log of the progress of a run. It writes at most two records a second to standard error, and
+/// drops the others.
 ///
-/// It does so as its manner is, or where the variable `RUST_LOG` of the environment asks for it, as
-/// a line of a log.
+/// It writes as its manner says, or, if the environment variable `RUST_LOG` asks for it, as lines
+/// of a log.
 #[derive(Drop)]
 pub struct Progress<R> {
     pub(crate) rt: R,
@@ -31,14 +31,14 @@ pub struct Progress<R> {
     /// What `RUST_LOG` asks for.
     pub(crate) filter: Filter,
     manner: Manner,
-    /// When it was told last, or the run began.
+    /// When progress was reported last, or the run began.
     told: Cell<Duration>,
-    /// Something stands in the one line.
+    /// Something is in the one line.
     is_shown: Cell<bool>,
 }
 
 impl<'a> Progress<&'a HostRuntime> {
-    /// The progress of a run that begins now, as the options of its call ask.
+    /// Returns the progress of a run that begins now, as the options of its call ask.
     pub fn of_call(
         rt: &'a HostRuntime,
         program: &'static str,
@@ -51,7 +51,7 @@ impl<'a> Progress<&'a HostRuntime> {
 }
 
 impl<R: Eprint + Clock> Progress<R> {
-    /// The progress of a run that begins now.
+    /// Returns the progress of a run that begins now.
     pub fn new(rt: R, program: &'static str, filter: Filter, manner: Manner) -> Progress<R> {
         let began = rt.monotonic().unwrap_or(Duration::ZERO);
         Progress {
@@ -64,12 +64,12 @@ impl<R: Eprint + Clock> Progress<R> {
         }
     }
 
-    /// A log of all that the variable `RUST_LOG` asks for, whenever it comes.
+    /// Returns a log of all that the variable `RUST_LOG` asks for, without intervals.
     pub fn asked_log(&self) -> AskedLog<'_, R> {
         AskedLog { progress: self }
     }
 
-    /// Whether anything is told at all.
+    /// Returns whether anything is reported at all.
     pub fn is_heard(&self) -> bool {
         self.is_heard_of(&Metadata::new(Level::Info, self.program))
     }
@@ -78,7 +78,7 @@ impl<R: Eprint + Clock> Progress<R> {
         self.manner != Manner::Silent || self.filter.enabled(metadata)
     }
 
-    /// Whether it is time to tell. A clock that can't be read never says so.
+    /// Returns whether a report is due. With a clock that can't be read none is.
     fn is_due(&self) -> bool {
         match self.rt.monotonic() {
             Ok(now) => now.saturating_sub(self.told.get()) >= Duration::from_millis(INTERVAL),
@@ -114,7 +114,7 @@ impl<R: Eprint + Clock> Log for Progress<R> {
         }
     }
 
-    /// Takes back what stands in the one line, so that others can write there.
+    /// Takes back what is in the one line, so that others can write there.
     fn flush(&self) {
         if self.is_shown.get() {
             self.is_shown.set(false);

@@ -13,8 +13,8 @@ use sat_formula::Lit;
 /// A number has at most this many bytes.
 const LONGEST_NUMBER: usize = 10;
 
-/// The number that the bytes begin with, and how many bytes spell it. None where fewer bytes
-/// are there than the longest number has, and where they begin with no number.
+/// Returns the number that the bytes begin with, and how many bytes spell it. None where fewer
+/// bytes are there than the longest number has, and where they begin with no number.
 #[inline(always)]
 pub(crate) fn number_ahead(bytes: &[u8]) -> Option<(u64, usize)>
     ensures bytes { IsBytes bytes.now }
@@ -49,12 +49,12 @@ pub(crate) fn number_ahead(bytes: &[u8]) -> Option<(u64, usize)>
     }
 }
 
-/// Puts literals that the bytes begin with into an empty vector, and gives how many bytes spell
+/// Puts literals that the bytes begin with into an empty vector, and returns how many bytes spell
 /// them.
 ///
-/// It ends before a literal of more than two bytes, and before what is none. It reads `most` at
-/// most; as many as the vector has room for, so that it asks for no memory; and half as many as
-/// there are bytes, so that each finds two bytes without a test.
+/// It ends before a literal of more than two bytes, and before bytes that are no literal. It reads
+/// at most `most`; as many as the vector has capacity for, so that it allocates nothing; and half
+/// as many as there are bytes, so that each finds two bytes without a test.
 #[inline(always)]
 pub(crate) fn lits_ahead(bytes: &[u8], most: u64, into: &mut Vec<Lit>) -> usize
     requires { into.old.items ≡ [] }
@@ -78,8 +78,8 @@ pub(crate) fn lits_ahead(bytes: &[u8], most: u64, into: &mut Vec<Lit>) -> usize
     at
 }
 
-/// The literal that two bytes begin with, and how many of them spell it. None where they begin with
-/// a longer one, and where they begin with none.
+/// Returns the literal that two bytes begin with, and how many of them spell it. None where they
+/// begin with a longer one, and where they begin with none.
 #[inline(always)]
 fn short_lit(first: u8, second: u8) -> Option<(Lit, usize)>
     ensures within { IfSome result (λ r. r.1 ≤ 2) }
@@ -96,11 +96,12 @@ fn short_lit(first: u8, second: u8) -> Option<(Lit, usize)>
     Some((Lit::from_code(code)?, 2))
 }
 
-/// Puts hashes that the bytes begin with into an empty vector, and gives how many bytes spell them.
+/// Puts hashes that the bytes begin with into an empty vector, and returns how many bytes spell
+/// them.
 ///
-/// It ends before a hash for which fewer bytes are there than the longest has, and before what is
-/// none. It reads `most` at most, and as many as the vector has room for, so that it asks for no
-/// memory.
+/// It ends before a hash for which fewer bytes are there than the longest has, and before bytes
+/// that are no hash. It reads at most `most`, and as many as the vector has capacity for, so that
+/// it allocates nothing.
 #[inline(always)]
 pub(crate) fn hashes_ahead(
     bytes: &[u8],
@@ -129,8 +130,8 @@ pub(crate) fn hashes_ahead(
     at
 }
 
-/// The hash that the bytes begin with, and how many bytes spell it. None where fewer bytes are
-/// there than the longest has, where it is a short number, and where they begin with none.
+/// Returns the hash that the bytes begin with, and how many bytes spell it. None where fewer bytes
+/// are there than the longest has, if it is a short number, and where they begin with none.
 #[inline(always)]
 pub(crate) fn hash_ahead(bytes: &[u8], format: Format) -> Option<(ClauseHash, usize)>
     requires { IsFormat format }
@@ -148,8 +149,8 @@ pub(crate) fn hash_ahead(bytes: &[u8], format: Format) -> Option<(ClauseHash, us
 /// The top bit of each of eight bytes.
 const TOPS: u64 = 0x8080_8080_8080_8080;
 
-/// The number that the bytes begin with, and how many bytes spell it, where that is nine or ten.
-/// None elsewhere.
+/// Returns the number that the bytes begin with, and how many bytes spell it, if that is nine or
+/// ten. None elsewhere.
 #[inline(always)]
 fn long_number_ahead(bytes: &[u8]) -> Option<(u64, usize)>
     ensures bytes { IsBytes bytes.now }
@@ -198,8 +199,8 @@ fn joined_groups(groups: u64) -> u64
     fours % 0x1_0000_0000 + fours / 0x1_0000_0000 * 0x1000_0000
 }
 
-/// A number of this many bits, in whole bytes with the low one first, and how many bytes spell it.
-/// None where fewer than eight bytes are there, and where the number has more bits.
+/// Returns a number of this many bits, in whole bytes with the low one first, and how many bytes
+/// spell it. None where fewer than eight bytes are there, and where the number has more bits.
 #[inline(always)]
 fn wide_ahead(bytes: &[u8], width: u32) -> Option<(u64, usize)>
     requires { (0 < width) × (width ≤ 64) }
@@ -218,8 +219,8 @@ fn wide_ahead(bytes: &[u8], width: u32) -> Option<(u64, usize)>
     }
 }
 
-/// The number whose low bytes are what as many of the bytes spell. None where fewer than eight are
-/// there.
+/// Returns the number whose low bytes are what as many of the bytes spell. None where fewer than
+/// eight are there.
 #[inline(always)]
 fn eight_ahead(bytes: &[u8]) -> Option<u64>
     ensures bytes { IsBytes bytes.now }
@@ -235,7 +236,7 @@ fn eight_ahead(bytes: &[u8]) -> Option<u64>
     ]))
 }
 
-/// The low bytes of a number.
+/// Returns the low bytes of a number.
 #[inline(always)]
 fn low_bytes(number: u64, count: u32) -> u64
     requires { count ≤ 8 }

@@ -48,6 +48,7 @@ impl<R: Read> BodyReader<R> {
     ghost use Rattle.proof_bytes.specs.Taking.{HasItsError, HasStopped, Reads, stop_of};
     ghost use Rattle.proof_bytes.specs.Formats.{IsFormat};
 
+    /// Returns a reader of fields. Reads nothing yet.
     pub(crate) fn new(alloc: Global, inner: R) -> BodyReader<R>
         ensures { unread_body R.remaining result ≡ R.remaining inner }
     {
@@ -59,6 +60,7 @@ impl<R: Read> BodyReader<R> {
         }
     }
 
+    /// Returns the fault of a stop.
     pub(crate) fn fault(&self, stop: Stop) -> ProofFault
         requires { stop ≡ Stop.Read → HasStopped self.now.fields }
         ensures stop { stop_of result ≡ stop }
@@ -67,7 +69,7 @@ impl<R: Read> BodyReader<R> {
         self.fields.fault(stop)
     }
 
-    /// The step of a head and the lists that were read with it.
+    /// Returns the step of a head and the lists that were read with it.
     #[inline(always)]
     pub(crate) fn shown(&self, head: Head) -> ProofStep<'_>
         ensures { view result ≡ step_of head self.now }
@@ -105,7 +107,7 @@ impl<R: Read> BodyReader<R> {
         }
     }
 
-    /// The next step of a text in this format, and the format after it.
+    /// Returns the next step of a text in this format, and the format after it.
     #[inline(always)]
     pub(crate) fn step(&mut self, format: Format) -> Result<(Format, Head), Stop>
         requires { IsFormat format }
@@ -121,7 +123,8 @@ impl<R: Read> BodyReader<R> {
         }
     }
 
-    /// The next tag, past the mark of a text that begins with it, and the format in force there.
+    /// Returns the next tag, past the mark of a text that begins with it, and the format in force
+    /// there.
     #[inline(always)]
     fn tag(&mut self, format: Format) -> Result<(Format, u8), Stop>
         requires { IsFormat format }
@@ -153,7 +156,7 @@ impl<R: Read> BodyReader<R> {
         Ok((Format::Bytes { width: 64 }, tag))
     }
 
-    /// What follows a tag.
+    /// Returns what follows a tag.
     #[inline(always)]
     fn body(&mut self, format: Format, tag: u8) -> Result<Head, Stop>
         requires { IsFormat format }
@@ -194,7 +197,7 @@ impl<R: Read> BodyReader<R> {
         Ok(Head::UserVarName { global, user })
     }
 
-    /// A variable and its name, whichever step they make.
+    /// Returns a variable and its name, whichever step they make.
     fn naming(&mut self) -> Result<(Var, Option<Var>), Stop>
         ensures { (make : ℕ → Option ℕ → Step) → Fills R.remaining
             (λ names. make (index_of names.0) (indexes_of names.1)) self.old self.new result

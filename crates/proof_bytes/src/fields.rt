@@ -24,6 +24,7 @@ impl<R: Read> Fields<R> {
     ghost use Rattle.proof_bytes.specs.Taking.{unread_fields, HasItsError, HasStopped, Reads, stop_of};
     ghost use Rattle.proof_bytes.specs.Formats.{IsFormat};
 
+    /// Returns the fields of a reader. Reads nothing yet.
     pub(crate) fn new(alloc: Global, inner: R) -> Fields<R>
         ensures { unread_fields R.remaining result ≡ R.remaining inner }
     {
@@ -32,7 +33,7 @@ impl<R: Read> Fields<R> {
         }
     }
 
-    /// The fault of a stop, with the error of the read that failed.
+    /// Returns the fault of a stop, with the error of the read that failed.
     pub(crate) fn fault(&self, stop: Stop) -> ProofFault
         requires { stop ≡ Stop.Read → HasStopped self.now }
         ensures stop { stop_of result ≡ stop }
@@ -46,6 +47,7 @@ impl<R: Read> Fields<R> {
         }
     }
 
+    /// Takes a byte and returns it.
     #[inline(always)]
     pub(crate) fn byte(&mut self) -> Result<u8, Stop>
         ensures { Reads R.remaining (λ b. b) self.old self.new result byte_at }
@@ -53,6 +55,7 @@ impl<R: Read> Fields<R> {
         Ok(self.source.next_byte()?)
     }
 
+    /// Takes a number and returns it.
     #[inline(always)]
     pub(crate) fn number(&mut self) -> Result<u64, Stop>
         ensures { Reads R.remaining (λ n. n) self.old self.new result number_at }
@@ -95,6 +98,7 @@ impl<R: Read> Fields<R> {
         Ok(value + weight)
     }
 
+    /// Takes a number below a limit and returns it.
     #[inline(always)]
     pub(crate) fn below(&mut self, limit: u64) -> Result<u64, Stop>
         ensures read { Reads R.remaining (λ n. n) self.old self.new result (below_at limit) }
@@ -108,6 +112,7 @@ impl<R: Read> Fields<R> {
         }
     }
 
+    /// Takes a literal and returns it.
     #[inline(always)]
     pub(crate) fn lit(&mut self) -> Result<Lit, Stop>
         ensures { Reads R.remaining (λ l. l) self.old self.new result lit_at }
@@ -116,6 +121,7 @@ impl<R: Read> Fields<R> {
         Lit::from_code(code as usize).ok_or(Stop::Malformed(MalformedStep::OutOfRange))
     }
 
+    /// Takes a variable and returns it.
     pub(crate) fn var(&mut self) -> Result<Var, Stop>
         ensures { Reads R.remaining index_of self.old self.new result var_at }
     {
@@ -123,6 +129,7 @@ impl<R: Read> Fields<R> {
         Var::from_index(index as usize).ok_or(Stop::Malformed(MalformedStep::OutOfRange))
     }
 
+    /// Takes a name and returns it: a variable, or `None`.
     pub(crate) fn name(&mut self) -> Result<Option<Var>, Stop>
         ensures { Reads R.remaining indexes_of self.old self.new result name_at }
     {
@@ -133,6 +140,7 @@ impl<R: Read> Fields<R> {
         Ok(Var::from_index((n - 1) as usize))
     }
 
+    /// Takes a flag, 0 or 1, and returns it.
     pub(crate) fn flag(&mut self) -> Result<bool, Stop>
         ensures { Reads R.remaining (λ b. b) self.old self.new result flag_at }
     {
@@ -140,6 +148,7 @@ impl<R: Read> Fields<R> {
         Ok(n == 1)
     }
 
+    /// Takes the justification of a deletion and returns it.
     pub(crate) fn justification(&mut self) -> Result<DeleteClauseProof, Stop>
         ensures { Reads R.remaining why self.old self.new result justification_at }
     {

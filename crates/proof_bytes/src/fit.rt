@@ -1,4 +1,4 @@
-//! Whether the hashes of a step have room in the width in force.
+//! Whether the hashes of a step fit the width in force.
 ghost use Rattle.std.specs.Prelude.{◌≡◌, map, ◌^◌, nat_lt};
 ghost use Rattle.proof_bytes.specs.NextStep.{view};
 ghost use Rattle.proof_bytes.specs.Spelling.{all_fit, hashes_of};
@@ -8,6 +8,7 @@ use crate::hash::ClauseHash;
 use crate::step::ProofStep;
 use sat_formula::Lit;
 
+/// Returns whether each hash of a step has as few bits as the format allows.
 pub(crate) fn hashes_fit(format: Format, step: &ProofStep) -> bool
     ensures { result ≡ all_fit format (hashes_of (view step.now)) }
 {

@@ -3,7 +3,7 @@
 /// Begins a text with a version of its own, whose number follows.
 pub(crate) const MARK: u8 = 0;
 
-/// The version whose hashes stand in bytes of a width.
+/// The version whose hashes are in bytes of a width.
 pub(crate) const VERSION: u8 = 2;
 
 pub(crate) const SOLVER_VAR_NAME: u8 = 1;

@@ -1,25 +1,25 @@
-//! Answers of calls as short texts.
+//! Results of calls as short texts.
 use arrayvec::ArrayString;
 use checker_parts::error::{CheckerError, DimacsError};
 use std::fmt;
 use std::fmt::Write;
 
-/// A text that takes no growth.
+/// A text that allocates nothing.
 pub type Answer = ArrayString<80>;
 
-/// What stands in place of another answer where memory was refused to a call.
+/// The result of a call that was refused memory.
 pub const WANT_OF_MEMORY: &str = "OutOfMemory";
 
-/// Memory that was refused to a registered box.
+/// The result if memory was refused to a registered box.
 pub const WANT_OF_A_BOX: &str = "ProofProcessorError memory allocation failed";
 
-/// What a checker answers once it has failed.
+/// The result of a checker that has failed.
 pub const FAILED: &str = "Failed";
 
-/// The text of an answer: `Ok`, or the name of the fault with the number of the step where it has
-/// one, and the cause.
+/// Returns the text of a result: `Ok`, or the name of the fault with the number of the step if it
+/// has one, and the cause.
 ///
-/// A refused step that is shown ends in `shown`.
+/// A rejected step that is shown ends in `shown`.
 pub fn step_answer(answer: &Result<(), CheckerError>) -> Answer {
     let mut text = Answer::new();
     let _ = match answer {
@@ -29,7 +29,7 @@ pub fn step_answer(answer: &Result<(), CheckerError>) -> Answer {
     text
 }
 
-/// The text of an answer to a formula's text: a malformed one has the number of its line.
+/// Returns the text of the result for a formula's text: a malformed one has the number of its line.
 pub fn text_answer(answer: &Result<(), DimacsError>) -> Answer {
     let mut text = Answer::new();
     let _ = match answer {
@@ -41,6 +41,7 @@ pub fn text_answer(answer: &Result<(), DimacsError>) -> Answer {
     text
 }
 
+/// Writes the text of a fault.
 fn write_fault(text: &mut Answer, fault: &CheckerError) -> fmt::Result {
     match fault {
         CheckerError::ProofIncomplete { step } => write!(text, "ProofIncomplete {step}"),

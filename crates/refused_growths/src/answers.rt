@@ -30,13 +30,13 @@ const ANSWERS: [Answer; 2] = [
     },
 ];
 
-/// Checks the answers.
+/// Checks the answers, each with its verdict and its line.
 pub fn check_answers(alloc: Global) -> Played {
     let [right, wrong] = ANSWERS;
     Ok(check(alloc, right)?.and(check(alloc, wrong)?))
 }
 
-/// Nothing is written where memory is wanted.
+/// Checks one answer. Nothing may be written if memory is refused.
 fn check(alloc: Global, answer: Answer) -> Played {
     let mut out = ArrayVec::<u8, 16>::new();
     match run_check(alloc, FORMULA, answer.text, &mut out, &mut None) {

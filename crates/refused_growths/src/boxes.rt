@@ -24,7 +24,7 @@ enum Listener {
 }
 
 impl Listener {
-    /// How many bytes it shows.
+    /// Returns the length of its output.
     fn shown(&self) -> usize {
         match self {
             Listener::Processor(processor) => processor.output().len(),
@@ -32,7 +32,11 @@ impl Listener {
         }
     }
 
-    /// Hands it to a checker. One that is refused comes back.
+    /// Registers it with a checker.
+    ///
+    /// # Errors
+    ///
+    /// It and the fault, if it is rejected.
     fn hand_in(self, checker: &mut Checker) -> Result<(), (Listener, CheckerError)> {
         match self {
             Listener::Processor(processor) => match checker.add_processor(processor) {
@@ -47,10 +51,12 @@ impl Listener {
     }
 }
 
-/// Registers a box, and once more where it is handed back since memory ran out. None: it is handed
-/// back again.
+/// Registers a box, and once more if it is returned since memory ran out. `None` if it is returned
+/// again.
 ///
-/// What it shows and what the checker records are as before each time.
+/// # Errors
+///
+/// If its output or what the checker records has changed then.
 fn register(checker: &mut Checker, listener: Listener) -> Result<Option<Memory>, Stop> {
     let (shown, inputs) = (listener.shown(), checker.input_clauses());
     let handed_back = match listener.hand_in(checker) {
@@ -75,7 +81,7 @@ pub struct Boxes {
     pub transcript: Box<dyn ProofTranscriptProcessor>,
 }
 
-/// Registers both boxes. None: one is handed back twice.
+/// Registers both boxes. `None` if one is returned twice. Fails as `register` does.
 pub fn register_both(checker: &mut Checker, boxes: Boxes) -> Result<Option<Memory>, Stop> {
     let Boxes {
         processor,
@@ -90,8 +96,8 @@ pub fn register_both(checker: &mut Checker, boxes: Boxes) -> Result<Option<Memor
     Ok(Some(with_processor.and(with_transcript)))
 }
 
-/// Registers boxes that have taken a step with another checker, which has a clause. They go on
-/// where they were.
+/// Registers boxes that have received a step from another checker, which has a clause. They
+/// continue with their outputs.
 pub fn hand_on(alloc: Global) -> Played {
     let processor = Box::new(alloc, Tally::new(alloc))?;
     let transcript = Box::new(alloc, Tally::new(alloc))?;
@@ -102,6 +108,7 @@ pub fn hand_on(alloc: Global) -> Played {
     handed_on(alloc, boxes)
 }
 
+/// Does that with these boxes.
 fn handed_on(alloc: Global, boxes: Boxes) -> Played {
     let mut first = Checker::new(alloc);
     let filled = fill(&mut first, boxes, "1 2");
@@ -129,8 +136,8 @@ fn handed_on(alloc: Global, boxes: Boxes) -> Played {
     }
 }
 
-/// Registers both boxes and adds a clause. None: memory is wanted, and the checker has failed or a
-/// box is refused.
+/// Registers both boxes and adds a clause. `None` if memory is refused, and the checker has failed
+/// or a box is returned.
 fn fill(checker: &mut Checker, boxes: Boxes, numbers: &str) -> Result<Option<Memory>, Stop> {
     let registered = register_both(checker, boxes)?;
     if registered.is_some() && !is_added(checker, numbers)? {
@@ -139,8 +146,8 @@ fn fill(checker: &mut Checker, boxes: Boxes, numbers: &str) -> Result<Option<Mem
     Ok(registered)
 }
 
-/// Adds a clause, registers both boxes, and adds another one. None: as above. A checker that has
-/// failed takes no box.
+/// Adds a clause, registers both boxes, and adds another one. `None` as for `fill`. A checker that
+/// has failed accepts no box.
 fn take_over(checker: &mut Checker, boxes: Boxes) -> Result<Option<Memory>, Stop> {
     if is_added(checker, "3 4")? {
         return fill(checker, boxes, "5 6");
@@ -159,7 +166,7 @@ fn take_over(checker: &mut Checker, boxes: Boxes) -> Result<Option<Memory>, Stop
     Ok(None)
 }
 
-/// Both boxes show these strokes.
+/// Checks that both boxes show these strokes.
 fn have_strokes(processor: &[u8], transcript: &[u8], strokes: &[u8]) -> Result<(), Stop> {
     if processor == strokes && transcript == strokes {
         Ok(())
@@ -168,7 +175,7 @@ fn have_strokes(processor: &[u8], transcript: &[u8], strokes: &[u8]) -> Result<(
     }
 }
 
-/// Adds a clause. False: memory is wanted, and the checker has failed.
+/// Adds a clause. Returns `false` if memory is refused, and the checker has failed.
 fn is_added(checker: &mut Checker, numbers: &str) -> Result<bool, Stop> {
     let clause = lits(numbers).ok_or(Wrong::NoCall)?;
     let answer = step_answer(&checker.add_clause(clause.as_slice()));
@@ -185,6 +192,7 @@ pub struct Counted {
 }
 
 impl Counted {
+    /// Returns a box that counts in this cell.
     fn new(drops: &Rc<Cell<u64>>) -> Result<Counted, Stop> {
         Ok(Counted {
             drops: drops.clone().map_err(|_| Stop::Own)?,
@@ -235,7 +243,7 @@ impl ProofTranscriptProcessor for Counted {
     }
 }
 
-/// A checker that is dropped drops its boxes, each once.
+/// Checks that a checker that is dropped drops its boxes, each once.
 pub fn drop_boxes(alloc: Global) -> Played {
     let drops = Rc::new(alloc, Cell::new(0))?;
     let first = Box::new(alloc, Counted::new(&drops)?)?;
@@ -249,8 +257,8 @@ pub fn drop_boxes(alloc: Global) -> Played {
     }
 }
 
-/// Registers two processors and a transcript with a checker, and drops it. A box that is refused is
-/// dropped too.
+/// Registers two processors and a transcript with a checker, and drops it. A box that is rejected
+/// is dropped too.
 fn dropped(
     alloc: Global,
     first: Box<dyn ProofProcessor>,
@@ -261,6 +269,7 @@ fn dropped(
     register_three(&mut checker, first, second, transcript)
 }
 
+/// Registers two processors and a transcript.
 fn register_three(
     checker: &mut Checker,
     first: Box<dyn ProofProcessor>,
@@ -276,7 +285,7 @@ fn register_three(
     }
 }
 
-/// A run that comes to no verdict drops its writer.
+/// Checks that a run without a verdict drops its writer.
 pub fn drop_writer(alloc: Global) -> Played {
     let drops = Rc::new(alloc, Cell::new(0))?;
     let writer = Counted::new(&drops)?;

@@ -25,7 +25,7 @@ use std::fmt::Write;
 use varisat_checker::Checker;
 use varisat_checker::internal::SelfChecker;
 
-/// Makes the call of a line, and answers what is seen of it. None: the line is no call.
+/// Makes the call of a line, and returns the text of its result. `None` if the line is no call.
 pub fn make(checker: &mut Checker, call: &str) -> Option<Answer> {
     let (name, rest) = first_word(call);
     match name {
@@ -43,7 +43,7 @@ pub fn make(checker: &mut Checker, call: &str) -> Option<Answer> {
     }
 }
 
-/// What the same call shows of a checker that has failed.
+/// Returns what the same call shows of a checker that has failed.
 pub fn after_failure(call: &str) -> &'static str {
     match first_word(call).0 {
         "unsat" => "false",
@@ -53,7 +53,7 @@ pub fn after_failure(call: &str) -> &'static str {
     }
 }
 
-/// What is recorded, by its name.
+/// Returns what is recorded under a name.
 fn shown(checker: &Checker, name: &str) -> Answer {
     let mut text = Answer::new();
     let _ = match name {
@@ -67,7 +67,7 @@ fn shown(checker: &Checker, name: &str) -> Answer {
     text
 }
 
-/// Hands in the step of a line.
+/// Makes the step of a line, and returns the text of its result. `None` if the line is no step.
 fn step(checker: &mut Checker, name: &str, rest: &str) -> Option<Answer> {
     match name {
         "at" => derive(checker, rest),
@@ -93,10 +93,12 @@ fn step(checker: &mut Checker, name: &str, rest: &str) -> Option<Answer> {
     }
 }
 
+/// Makes a step, and returns the text of its result.
 fn check(checker: &mut Checker, step: ProofStep<'_>) -> Answer {
     step_answer(&checker.self_check_step(step))
 }
 
+/// Makes the derivation of a line.
 fn derive(checker: &mut Checker, rest: &str) -> Option<Answer> {
     let (numbers, names) = rest.split_once(':')?;
     let clause = lits(numbers)?;
@@ -109,7 +111,7 @@ fn derive(checker: &mut Checker, rest: &str) -> Option<Answer> {
     Some(check(checker, step))
 }
 
-/// The step of a line on the name or the mode of a variable.
+/// Returns the step of a line on the name or the mode of a variable.
 fn name_step(name: &str, rest: &str) -> Option<ProofStep<'static>> {
     let (number, value) = first_word(rest);
     let global = var(number)?;
@@ -130,7 +132,7 @@ fn name_step(name: &str, rest: &str) -> Option<ProofStep<'static>> {
     }
 }
 
-/// The variable of a number, or none for a dash.
+/// Returns the variable of a number, or none for a dash.
 fn optional_var(number: &str) -> Option<Option<Var>> {
     match number {
         "-" => Some(None),
@@ -138,7 +140,7 @@ fn optional_var(number: &str) -> Option<Option<Var>> {
     }
 }
 
-/// The first word, and what follows it.
+/// Returns the first word, and the text after it.
 fn first_word(text: &str) -> (&str, &str) {
     match text.split_once(' ') {
         Some(parts) => parts,

@@ -1,9 +1,12 @@
-//! Short lists that lie in the value itself, so that making one is no growth.
+//! Short lists that are stored in the value itself, so that making one allocates nothing.
+//!
+//! A function that returns an `Option` returns `None` if its text has not this form, or has more
+//! than 32 items.
 ghost use Rattle.std.specs.Prelude.{◌≤◌};
 
 use sat_formula::{Lit, Var};
 
-/// This many items fit.
+/// How many items a list can have.
 const ROOM: usize = 32;
 
 /// At most 32 items.
@@ -15,7 +18,7 @@ pub struct Few<T> {
 }
 
 impl<T: Copy> Few<T> {
-    /// No items. The places hold a blank one.
+    /// Returns an empty list, whose slots hold a blank item.
     pub fn none(blank: T) -> Few<T> {
         Few {
             items: [blank; ROOM],
@@ -23,7 +26,7 @@ impl<T: Copy> Few<T> {
         }
     }
 
-    /// Puts an item at the end, where there is room.
+    /// Appends an item. `None` if the list is full; it is as it was then.
     pub fn push(&mut self, item: T) -> Option<()> {
         if self.count == ROOM {
             return None;
@@ -33,22 +36,23 @@ impl<T: Copy> Few<T> {
         Some(())
     }
 
+    /// Returns the items.
     pub fn as_slice(&self) -> &[T] {
         &self.items[..self.count]
     }
 }
 
-/// The literal of a DIMACS number.
+/// Returns the literal of a DIMACS number.
 pub fn lit(number: &str) -> Option<Lit> {
     Lit::from_dimacs(number.parse::<i64>().ok()?)
 }
 
-/// The variable of a DIMACS number.
+/// Returns the variable of a DIMACS number.
 pub fn var(number: &str) -> Option<Var> {
     Var::from_dimacs(number.parse::<i64>().ok()?)
 }
 
-/// The literals of DIMACS numbers.
+/// Returns the literals of DIMACS numbers.
 pub fn lits(numbers: &str) -> Option<Few<Lit>> {
     let mut lits = Few::none(Lit::from_code(0)?);
     for number in numbers.split_whitespace() {
@@ -57,7 +61,7 @@ pub fn lits(numbers: &str) -> Option<Few<Lit>> {
     Some(lits)
 }
 
-/// The bytes that stand here in hexadecimal.
+/// Returns the bytes of hexadecimal numbers.
 pub fn bytes(numbers: &str) -> Option<Few<u8>> {
     let mut bytes = Few::none(0);
     for number in numbers.split_whitespace() {
@@ -66,7 +70,7 @@ pub fn bytes(numbers: &str) -> Option<Few<u8>> {
     Some(bytes)
 }
 
-/// The bytes of a text, in which a bar stands for the end of a line.
+/// Returns the bytes of a text, with line feeds in place of bars.
 pub fn text(line: &str) -> Option<Few<u8>> {
     let mut text = Few::none(0);
     for byte in line.bytes() {
@@ -75,7 +79,7 @@ pub fn text(line: &str) -> Option<Few<u8>> {
     Some(text)
 }
 
-/// The hashes of these names.
+/// Returns the hashes of these names.
 pub fn hashes(names: &str) -> Option<Few<u64>> {
     let mut hashes = Few::none(0);
     for name in names.split_whitespace() {
@@ -84,7 +88,7 @@ pub fn hashes(names: &str) -> Option<Few<u64>> {
     Some(hashes)
 }
 
-/// The units and hashes of these pairs.
+/// Returns the units and hashes of these pairs.
 pub fn units(pairs: &str) -> Option<Few<(Lit, u64)>> {
     let mut units = Few::none((Lit::from_code(0)?, 0));
     for pair in pairs.split_whitespace() {
@@ -94,7 +98,7 @@ pub fn units(pairs: &str) -> Option<Few<(Lit, u64)>> {
     Some(units)
 }
 
-/// The hash of this name: a letter, or the number itself in hexadecimal.
+/// Returns the hash of this name: a letter, or the number itself in hexadecimal.
 fn hash(name: &str) -> Option<u64> {
     match name {
         // Of [1 2], [1 -2], [-1 2] and [-1 -2].

@@ -15,12 +15,14 @@ const CLAUSES: [(&str, usize); 5] = [
     ("1 2 3 4 5 6 7 8 9 10 11 12", 12),
 ];
 
-/// Adds clauses to a formula. A refused one leaves it as it was, and is added once more.
+/// Adds clauses to a formula. One that is refused memory leaves it as it was, and is added once
+/// more.
 pub fn add_clauses(alloc: Global) -> Played {
     let mut formula = CnfFormula::new(alloc);
     add_all(&mut formula)
 }
 
+/// Adds the clauses of the row.
 fn add_all(formula: &mut CnfFormula) -> Played {
     let mut memory = Memory::Ample;
     let mut vars = 0;
@@ -40,7 +42,8 @@ fn add_all(formula: &mut CnfFormula) -> Played {
     Ok(memory)
 }
 
-/// The formula has this many clauses and variables, and its clauses are the first ones.
+/// Checks that the formula has this many clauses and variables, and that its clauses are the first
+/// ones of the row.
 fn is_formula(formula: &CnfFormula, count: usize, vars: usize) -> Result<(), Stop> {
     if formula.len() != count || formula.var_count() != vars {
         return Err(Stop::Wrong(Wrong::State));
@@ -52,12 +55,13 @@ fn is_formula(formula: &CnfFormula, count: usize, vars: usize) -> Result<(), Sto
     Ok(())
 }
 
-/// Reads the clauses of a text. Once memory is wanted there are no more, and none is half read.
+/// Reads the clauses of a text. Once memory is refused there are no more, and none is half read.
 pub fn read_clauses(alloc: Global) -> Played {
     let mut reader = DimacsReader::new(alloc, Bytewise::new(b"p cnf 9 9\n1 -2 0\n2 0\n"));
     read_both(alloc, &mut reader)
 }
 
+/// Reads the two clauses of the text.
 fn read_both(alloc: Global, reader: &mut DimacsReader<Bytewise<'_>>) -> Played {
     let mut clause = Vec::new(alloc);
     for numbers in ["1 -2", "2"] {
@@ -88,6 +92,7 @@ fn read_one(alloc: Global, text: &[u8], code: Option<usize>) -> Played {
     read_literal(alloc, &mut reader, code)
 }
 
+/// Reads that literal, and the end.
 fn read_literal(
     alloc: Global,
     reader: &mut DimacsReader<Bytewise<'_>>,
@@ -104,7 +109,7 @@ fn read_literal(
     Ok(memory)
 }
 
-/// The clause has one literal, of this code.
+/// Checks that the clause has one literal, of this code.
 fn has_code(clause: &[Lit], code: usize) -> Played {
     match clause {
         [lit] if lit.code() == code => Ok(Memory::Ample),
@@ -112,7 +117,7 @@ fn has_code(clause: &[Lit], code: usize) -> Played {
     }
 }
 
-/// The fault is a variable that is too large, on the first line.
+/// Checks that the fault is a variable that is too large, on the first line.
 fn is_too_large(line: u64, kind: DimacsKind) -> Played {
     if line == 1 && kind == DimacsKind::VarTooLarge {
         Ok(Memory::Ample)
@@ -121,7 +126,7 @@ fn is_too_large(line: u64, kind: DimacsKind) -> Played {
     }
 }
 
-/// The reader answers the end, and the list of its caller is empty.
+/// Checks that the reader returns the end, and that the list of its caller is empty.
 fn is_ended(reader: &mut DimacsReader<Bytewise<'_>>, clause: &mut Vec<Lit>) -> Result<(), Stop> {
     match reader.next_clause(clause) {
         Ok(false) if clause.is_empty() => Ok(()),
@@ -129,7 +134,7 @@ fn is_ended(reader: &mut DimacsReader<Bytewise<'_>>, clause: &mut Vec<Lit>) -> R
     }
 }
 
-/// The list has the literals of these numbers.
+/// Checks that the list has the literals of these numbers.
 fn is_clause(clause: &[Lit], numbers: &str) -> Result<(), Stop> {
     match lits(numbers) {
         Some(wanted) if clause == wanted.as_slice() => Ok(()),
@@ -137,8 +142,8 @@ fn is_clause(clause: &[Lit], numbers: &str) -> Result<(), Stop> {
     }
 }
 
-/// Copies lists in canonical form. Where one is refused the target is empty, and it is copied once
-/// more.
+/// Copies lists in canonical form. If memory is refused the target is empty, and the list is copied
+/// once more.
 pub fn copy_lists(alloc: Global) -> Played {
     let mut target = Vec::new(alloc);
     let mut memory = Memory::Ample;

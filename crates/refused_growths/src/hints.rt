@@ -59,12 +59,14 @@ const EMPTY_LINE: &str = "10 0 9 3 4 0\n";
 
 pub const LINES: &str = "9 1 0 1 2 0\n10 0 9 3 4 0\n";
 
-/// Hands steps to a writer. A refused one leaves its output as it was, and is handed in once more.
+/// Passes steps to a writer. One that is refused memory leaves its output as it was, and is passed
+/// once more.
 pub fn write_lines(alloc: Global) -> Played {
     let mut writer = LratWriter::new(alloc, 4);
     write_all(&mut writer)
 }
 
+/// Passes the steps of the row to a writer.
 fn write_all(writer: &mut LratWriter) -> Played {
     let mut memory = Memory::Ample;
     let mut before = "";
@@ -96,7 +98,7 @@ fn write_all(writer: &mut LratWriter) -> Played {
     Ok(memory)
 }
 
-/// Hands a step to a writer. False: there was no memory for it.
+/// Passes a step to a writer. Returns `false` if there was no memory for it.
 fn is_taken(writer: &mut LratWriter, step: &CheckedProofStep<'_>) -> Result<bool, Stop> {
     match writer.write_step(step) {
         Ok(()) => Ok(true),
@@ -105,6 +107,7 @@ fn is_taken(writer: &mut LratWriter, step: &CheckedProofStep<'_>) -> Result<bool
     }
 }
 
+/// Checks that the output is these lines.
 fn shows(writer: &LratWriter, lines: &str) -> Result<(), Stop> {
     if writer.output() == lines.as_bytes() {
         Ok(())
@@ -113,8 +116,8 @@ fn shows(writer: &LratWriter, lines: &str) -> Result<(), Stop> {
     }
 }
 
-/// Makes a checker of hints, and hands it one line after the other. Once memory is wanted it
-/// refuses every text.
+/// Makes a checker of hints, and passes it one line after the other. Once memory is refused it
+/// rejects every text.
 pub fn check_lines(alloc: Global) -> Played {
     let Some(formula) = formula(alloc)? else {
         return Ok(Memory::Wanting);
@@ -126,6 +129,7 @@ pub fn check_lines(alloc: Global) -> Played {
     }
 }
 
+/// Passes both lines to a checker.
 fn check_both(checker: &mut HintChecker) -> Played {
     for (line, answer) in [(UNIT_LINE, false), (EMPTY_LINE, true)] {
         match checker.check(line.as_bytes()) {
@@ -142,7 +146,7 @@ fn check_both(checker: &mut HintChecker) -> Played {
     Ok(Memory::Ample)
 }
 
-/// Reads the formula. None: memory is wanted.
+/// Reads the formula, and returns it. `None` if memory is refused.
 pub fn formula(alloc: Global) -> Result<Option<CnfFormula>, Stop> {
     match read_formula(alloc, FOUR, &mut None) {
         Ok(formula) => Ok(Some(formula)),

@@ -40,8 +40,8 @@ const BYTES: [u8; 44] = [
     0xFE, 0xD7, 0x66, 0x7E, 0x08, 0xBD, 0x03, 0x9D, 0x74, 0x9F, 0xC4, 0x0D,
 ];
 
-/// Makes a checker of lines, and hands it one after the other. Once memory is wanted it has failed,
-/// and shows nothing.
+/// Makes a checker of lines, and passes it one after the other. Once memory is refused it has
+/// failed, and shows nothing.
 pub fn check_lines(alloc: Global) -> Played {
     let Some(formula) = formula(alloc)? else {
         return Ok(Memory::Wanting);
@@ -52,6 +52,7 @@ pub fn check_lines(alloc: Global) -> Played {
     }
 }
 
+/// Passes both lines to a checker.
 fn check_both(checker: &mut LratChecker) -> Played {
     for addition in ADDITIONS.iter() {
         let clause = lits(addition.clause).ok_or(Wrong::NoCall)?;
@@ -71,7 +72,7 @@ fn check_both(checker: &mut LratChecker) -> Played {
     }
 }
 
-/// Hands a line to a checker. False: memory is wanted, and the checker has failed.
+/// Passes a line to a checker. Returns `false` if memory is refused, and the checker has failed.
 fn is_accepted(checker: &mut LratChecker, line: LratLine<'_>) -> Result<bool, Stop> {
     match checker.check_line(line) {
         Ok(()) => return Ok(true),
@@ -84,8 +85,7 @@ fn is_accepted(checker: &mut LratChecker, line: LratLine<'_>) -> Result<bool, St
     }
 }
 
-/// Converts the text. What is written is a beginning of the bytes, and all of them where no memory
-/// is wanted.
+/// Converts the text. A beginning of the bytes is written, and all of them if no memory is refused.
 pub fn convert_lines(alloc: Global) -> Played {
     let Some(formula) = formula(alloc)? else {
         return Ok(Memory::Wanting);

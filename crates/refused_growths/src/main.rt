@@ -1,13 +1,13 @@
-//! The command `refused_growths [ROW]`: plays worked rows of calls, and judges what is seen where
+//! The command `refused_growths [ROW]`: plays worked rows of calls, and judges their results if
 //! memory is refused to them.
 //!
-//! A test refuses one growth of the program after the other. Either a call's answer is the row's,
-//! or it is out of memory, and then what stands after it must be right. The program itself grows
-//! by the boxes that it registers alone.
+//! A test refuses one allocation of the program after the other. Either a call's result is the
+//! row's, or it is out of memory, and then the state after it must be right. The program itself
+//! allocates only the boxes that it registers.
 //!
-//! It writes a line for each row; without an argument it plays all of them. The exit status is 0
-//! where each row is as it may be, 1 where one is not, 2 where there is no such row, and 4 where
-//! memory was refused to the program itself.
+//! It writes a line for each row; without an argument it plays all of them. The exit status is 0 if
+//! each row is as it may be, 1 if one is not, 2 if there is no such row, and 4 if memory was
+//! refused to the program itself.
 #![tactic(auto)]
 
 mod answer;
@@ -43,6 +43,7 @@ fn main(rt: HostRuntime) -> ExitCode {
     ExitCode::from(status_of_call(&rt))
 }
 
+/// Plays the rows that the command line names. Returns the exit status.
 fn status_of_call(rt: &HostRuntime) -> u8 {
     let mut name = [0u8; 64];
     match rt.arg(1, &mut name) {
@@ -54,7 +55,7 @@ fn status_of_call(rt: &HostRuntime) -> u8 {
     }
 }
 
-/// Plays all rows. The status is the greatest of theirs.
+/// Plays all rows. Returns the greatest of their statuses.
 fn all_played(rt: &HostRuntime) -> u8 {
     let mut status = RIGHT;
     for row in rows::NAMES.iter().chain(rows::READS.iter()) {
@@ -63,7 +64,7 @@ fn all_played(rt: &HostRuntime) -> u8 {
     status
 }
 
-/// Plays a row and writes its line.
+/// Plays a row and writes its line. Returns its status.
 fn played(rt: &HostRuntime, row: &str) -> u8 {
     match rows::play(rt.alloc(), row) {
         Some(outcome) => told(rt, row, outcome),
@@ -71,6 +72,7 @@ fn played(rt: &HostRuntime, row: &str) -> u8 {
     }
 }
 
+/// Writes the line of a row. Returns its status.
 fn told(rt: &HostRuntime, row: &str, outcome: Played) -> u8 {
     let (written, status) = match outcome {
         Ok(Memory::Ample) => (println!(rt; "{row}: as written"), RIGHT),

@@ -1,7 +1,7 @@
-//! What the play of a row comes to.
+//! The result of playing a row.
 use std::alloc::AllocFailed;
 
-/// Whether "out of memory" was answered in place of something.
+/// Whether "out of memory" was returned in place of something.
 #[derive(Clone, Copy, Debug, PartialEq, Eq)]
 pub enum Memory {
     Ample,
@@ -9,7 +9,7 @@ pub enum Memory {
 }
 
 impl Memory {
-    /// Of two parts of a row.
+    /// Returns the result of two parts of a row.
     pub fn and(self, other: Memory) -> Memory {
         match (self, other) {
             (Memory::Ample, Memory::Ample) => Memory::Ample,
@@ -21,15 +21,15 @@ impl Memory {
 /// What no row allows.
 #[derive(Clone, Copy, Debug, PartialEq, Eq)]
 pub enum Wrong {
-    /// A row of this program says something that is no call.
+    /// A line of a row is no call.
     NoCall,
-    /// A call answers neither what it should nor out of memory.
+    /// A call returns neither what it should nor out of memory.
     Answer,
-    /// A call of what has failed answers something else.
+    /// A call after a failure returns something else.
     AnswerAfterFailure,
-    /// What stands after a call is not what should.
+    /// The state after a call is wrong.
     State,
-    /// What was refused has changed something.
+    /// A call that was refused memory has changed something.
     ChangedByRefusal,
     /// Boxes are missing, or show other steps.
     Boxes,
@@ -44,11 +44,11 @@ pub enum Wrong {
 pub enum Stop {
     /// Memory was refused to what plays the row, and to no call.
     Own,
-    /// Something is seen that no row allows.
+    /// A result that no row allows.
     Wrong(Wrong),
 }
 
-/// What a row comes to.
+/// The result of a row.
 pub type Played = Result<Memory, Stop>;
 
 impl<T: Drop> From<AllocFailed<T>> for Stop {

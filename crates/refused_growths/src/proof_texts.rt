@@ -9,13 +9,13 @@ use std::alloc::Global;
 /// A proof by hashes of one bit: the width, the unit 1, the empty clause, the end.
 pub const PROOF: &[u8] = b"\x09\x01\x06\x00\x01\x00\x02\x01\x00\x06\x00\x00\x02\x00\x01\x0D";
 
-/// Where its steps end.
+/// The positions at which its steps end.
 const ENDS: [usize; 4] = [2, 9, 15, 16];
 
 /// What version 2 of the bytes begins with.
 const MARK: &[u8] = b"\x00\x02";
 
-/// The step of this place.
+/// Returns the step of this index.
 fn step_at(place: usize, unit: &[Lit]) -> ProofStep<'_> {
     match place {
         0 => ProofStep::ChangeHashBits { bits: 1 },
@@ -33,8 +33,8 @@ fn step_at(place: usize, unit: &[Lit]) -> ProofStep<'_> {
     }
 }
 
-/// Writes the steps in version 1. A refused one leaves the bytes as they were, and is written once
-/// more.
+/// Writes the steps in version 1. One that is refused memory leaves the bytes as they were, and is
+/// written once more.
 pub fn write_numbers(alloc: Global) -> Played {
     written(alloc, None, &[])
 }
@@ -44,6 +44,7 @@ pub fn write_marked(alloc: Global) -> Played {
     written(alloc, Some(ProofWriter::new()), MARK)
 }
 
+/// Writes the steps, by the writer if there is one, and checks the bytes after each.
 fn written(alloc: Global, mut writer: Option<ProofWriter>, mark: &[u8]) -> Played {
     let unit = [lit("1").ok_or(Wrong::NoCall)?];
     let mut out = Vec::new(alloc);
@@ -65,7 +66,7 @@ fn written(alloc: Global, mut writer: Option<ProofWriter>, mark: &[u8]) -> Playe
     Ok(memory)
 }
 
-/// Writes a step, by the writer where there is one. False: there was no memory for it.
+/// Writes a step, by the writer if there is one. Returns `false` if there was no memory for it.
 fn put(
     out: &mut Vec<u8>,
     writer: &mut Option<ProofWriter>,
@@ -81,7 +82,7 @@ fn put(
     }
 }
 
-/// The bytes are the mark and this many of the proof, or none at all.
+/// Checks that the bytes are the mark and this many of the proof, or none at all.
 fn is_written(out: &[u8], mark: &[u8], end: usize) -> Result<(), Stop> {
     let right = match out.strip_prefix(mark) {
         Some(steps) => steps == &PROOF[..end.min(PROOF.len())],
@@ -94,13 +95,14 @@ fn is_written(out: &[u8], mark: &[u8], end: usize) -> Result<(), Stop> {
     }
 }
 
-/// Reads the steps. Once memory is wanted there are no more, and nothing is read.
+/// Reads the steps. Once memory is refused there are no more, and nothing is read.
 pub fn read_steps(alloc: Global) -> Played {
     let mut bytes = Bytewise::new(PROOF);
     let mut reader = StepReader::new(alloc, &mut bytes);
     read_all(&mut reader)
 }
 
+/// Reads all steps of the proof, and the end.
 fn read_all(reader: &mut StepReader<&mut Bytewise<'_>>) -> Played {
     let unit = [lit("1").ok_or(Wrong::NoCall)?];
     for place in 0..ENDS.len() {
@@ -121,7 +123,7 @@ fn read_all(reader: &mut StepReader<&mut Bytewise<'_>>) -> Played {
     }
 }
 
-/// Whether two steps of the proof are equal.
+/// Returns whether two steps of the proof are equal.
 fn is_step(step: &ProofStep<'_>, wanted: &ProofStep<'_>) -> bool {
     match (step, wanted) {
         (ProofStep::ChangeHashBits { bits }, ProofStep::ChangeHashBits { bits: width }) => {

@@ -1,8 +1,8 @@
-//! A reader that gives one byte a read, and may fail.
+//! A reader that returns one byte a read, and may fail.
 use std::io;
 use std::io::{ErrorKind, Read};
 
-/// Gives one byte a read, and fails the read of this number, counted from 1. It counts the reads.
+/// Returns one byte a read, and fails the read of this number, from 1 on. It counts the reads.
 #[derive(Drop)]
 pub struct Bytewise<'a> {
     rest: &'a [u8],
@@ -11,12 +11,12 @@ pub struct Bytewise<'a> {
 }
 
 impl Bytewise<'_> {
-    /// No read fails.
+    /// Returns a reader of which no read fails.
     pub fn new(bytes: &[u8]) -> Bytewise<'_> {
         Bytewise::failing_at(bytes, 0)
     }
 
-    /// The read of this number fails, counted from 1.
+    /// Returns a reader of which the read of this number fails, from 1 on.
     pub fn failing_at(bytes: &[u8], failing: u64) -> Bytewise<'_> {
         Bytewise {
             rest: bytes,
@@ -25,7 +25,7 @@ impl Bytewise<'_> {
         }
     }
 
-    /// How many reads were made.
+    /// Returns how many reads were made.
     pub fn reads(&self) -> u64 {
         self.reads
     }

@@ -42,7 +42,7 @@ pub const NAMES: [&str; 27] = [
 /// Rows in which each read fails in turn.
 pub const READS: [&str; 2] = ["failing_reads_of_a_proof", "failing_reads_of_texts"];
 
-/// Plays a row. None: there is none of this name.
+/// Plays a row. `None` if there is none of this name.
 pub fn play(alloc: Global, name: &str) -> Option<Played> {
     Some(match name {
         "refutation" => judged(alloc, REFUTATION),

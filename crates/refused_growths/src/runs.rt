@@ -18,10 +18,10 @@ pub const FOUR: &[u8] = b"1 2 0 1 -2 0 -1 2 0 -1 -2 0";
 /// The line of a run that shows them unsatisfiable.
 const LINE: &[u8] = b"s UNSATISFIABLE\n";
 
-/// What a run writes, with room for more than it may.
+/// What a run writes; it has more capacity than a verdict needs.
 type Written = ArrayVec<u8, 64>;
 
-/// Checks the proof of four clauses. Where there is no verdict, no line is written.
+/// Checks the proof of four clauses. Without a verdict no line may be written.
 pub fn check_four(alloc: Global) -> Played {
     let mut out = Written::new();
     let answer = run_check(&Discard, alloc, FOUR, PROOF, &mut out, &mut None);
@@ -32,7 +32,7 @@ pub fn check_four(alloc: Global) -> Played {
     }
 }
 
-/// A run with lines of hints. Where there is no verdict, none is written.
+/// Makes a run with lines of hints. Without a verdict none may be written.
 pub fn write_four(alloc: Global) -> Played {
     let Some(formula) = formula(alloc)? else {
         return Ok(Memory::Wanting);
@@ -51,7 +51,7 @@ pub fn write_four(alloc: Global) -> Played {
     }
 }
 
-/// A run is out of memory, of its checker or its writer.
+/// Checks that a run is out of memory, in its checker or its writer.
 pub fn is_want(fault: &RunFault) -> Played {
     let mut text = Answer::new();
     let _ = write!(text, "{fault}");
@@ -61,7 +61,7 @@ pub fn is_want(fault: &RunFault) -> Played {
     }
 }
 
-/// The proof of four clauses byte by byte, with each read failing in turn.
+/// Checks the proof of four clauses byte by byte, with each read failing in turn.
 pub fn fail_reads_of_proof(alloc: Global) -> Played {
     let mut memory = Memory::Ample;
     for failing in 1..=PROOF.len() as u64 {
@@ -70,12 +70,13 @@ pub fn fail_reads_of_proof(alloc: Global) -> Played {
     Ok(memory)
 }
 
+/// Checks that proof, with the read of this number failing.
 fn failed_proof(alloc: Global, failing: u64) -> Played {
     let mut checker = Checker::new(alloc);
     fail_read_of_proof(&mut checker, failing)
 }
 
-/// The step whose reading fails with the read of this number.
+/// Returns the step whose reading fails with the read of this number.
 fn failing_step(read: u64) -> u64 {
     match read {
         0..3 => 1,
@@ -85,8 +86,8 @@ fn failing_step(read: u64) -> u64 {
     }
 }
 
-/// Adds the four clauses and checks the proof, of which one read fails. What was checked before it
-/// stands.
+/// Adds the four clauses and checks the proof, of which one read fails. The steps that were checked
+/// before it keep their effect.
 fn fail_read_of_proof(checker: &mut Checker, failing: u64) -> Played {
     let added = text_answer(&checker.add_dimacs_cnf(&Discard, FOUR));
     if added.as_str() != "Ok" {
@@ -113,7 +114,7 @@ fn fail_read_of_proof(checker: &mut Checker, failing: u64) -> Played {
     Ok(Memory::Ample)
 }
 
-/// The answer is out of memory, and the checker has failed.
+/// Checks that the result is out of memory, and that the checker has failed.
 pub fn is_failed(checker: &mut Checker, answer: &str) -> Played {
     if answer != WANT_OF_MEMORY && answer != WANT_OF_A_BOX {
         return Err(Stop::Wrong(Wrong::Answer));
@@ -162,7 +163,7 @@ const TEXTS: [Text; 5] = [
     },
 ];
 
-/// The texts byte by byte, with each read failing in turn that is made of them.
+/// Adds the texts byte by byte, with each of their reads failing in turn.
 pub fn fail_reads_of_texts(alloc: Global) -> Played {
     let mut memory = Memory::Ample;
     for text in &TEXTS {
@@ -171,6 +172,7 @@ pub fn fail_reads_of_texts(alloc: Global) -> Played {
     Ok(memory)
 }
 
+/// Does that with one text.
 fn fail_reads_of(alloc: Global, text: Text) -> Played {
     let Some(reads) = whole_text(alloc, text)? else {
         return Ok(Memory::Wanting);
@@ -182,7 +184,8 @@ fn fail_reads_of(alloc: Global, text: Text) -> Played {
     Ok(memory)
 }
 
-/// Adds a text of which no read fails, and answers how many were made. None: memory is wanted.
+/// Adds a text of which no read fails, and returns how many reads were made. `None` if memory is
+/// refused.
 fn whole_text(alloc: Global, text: Text) -> Result<Option<u64>, Stop> {
     let mut checker = Checker::new(alloc);
     let mut bytes = Bytewise::new(text.bytes);
@@ -195,13 +198,14 @@ fn whole_text(alloc: Global, text: Text) -> Result<Option<u64>, Stop> {
     Ok(None)
 }
 
+/// Adds a text to a new checker, with the read of this number failing.
 fn failed_text(alloc: Global, text: Text, failing: u64) -> Played {
     let mut checker = Checker::new(alloc);
     fail_read_of_text(&mut checker, text, failing)
 }
 
-/// Adds a text, of which one read fails. The clauses that ended before it stand, and the checker
-/// goes on.
+/// Adds a text, of which one read fails. The clauses that ended before it are stored, and the
+/// checker goes on.
 fn fail_read_of_text(checker: &mut Checker, text: Text, failing: u64) -> Played {
     let mut broken = Bytewise::failing_at(text.bytes, failing);
     let answer = text_answer(&checker.add_dimacs_cnf(&Discard, &mut broken));
@@ -225,7 +229,7 @@ fn fail_read_of_text(checker: &mut Checker, text: Text, failing: u64) -> Played 
     }
 }
 
-/// How many clauses end before a byte.
+/// Returns how many clauses end before a byte.
 fn ended_before(text: Text, byte: u64) -> u64 {
     text.ends.iter().filter(|end| **end < byte).count() as u64
 }

@@ -16,7 +16,8 @@ pub fn all_judged(alloc: Global, scripts: &[&str]) -> Played {
     Ok(memory)
 }
 
-/// Plays a script with a processor and a transcript, each of which lists what it is told.
+/// Plays a script with a processor and a transcript, each of which lists the steps that it
+/// receives.
 pub fn judged(alloc: Global, script: &str) -> Played {
     let processor = Box::new(alloc, StepList::new(alloc))?;
     let transcript = Box::new(alloc, StepList::new(alloc))?;
@@ -27,6 +28,7 @@ pub fn judged(alloc: Global, script: &str) -> Played {
     judged_with(alloc, boxes, script)
 }
 
+/// Plays a script with these boxes.
 fn judged_with(alloc: Global, boxes: Boxes, script: &str) -> Played {
     let mut checker = Checker::new(alloc);
     let ran = run(&mut checker, boxes, script);
@@ -42,7 +44,7 @@ fn judged_with(alloc: Global, boxes: Boxes, script: &str) -> Played {
     }
 }
 
-/// What a script has met so far.
+/// The state of a script's run.
 #[derive(Clone, Copy)]
 struct Ran {
     memory: Memory,
@@ -50,7 +52,7 @@ struct Ran {
     failed: Option<usize>,
 }
 
-/// Registers the boxes and plays the script. None: a box is refused twice.
+/// Registers the boxes and plays the script. `None` if a box is returned twice.
 fn run(checker: &mut Checker, boxes: Boxes, script: &str) -> Result<Option<Ran>, Stop> {
     let Some(memory) = register_both(checker, boxes)? else {
         return Ok(None);
@@ -58,7 +60,7 @@ fn run(checker: &mut Checker, boxes: Boxes, script: &str) -> Result<Option<Ran>,
     Ok(Some(play(checker, script, memory)?))
 }
 
-/// Makes the calls of a script.
+/// Makes the calls of a script, and returns the state after them.
 fn play(checker: &mut Checker, script: &str, memory: Memory) -> Result<Ran, Stop> {
     let mut ran = Ran {
         memory,
@@ -75,7 +77,7 @@ fn play(checker: &mut Checker, script: &str, memory: Memory) -> Result<Ran, Stop
 }
 
 impl Ran {
-    /// Judges the answer to the call of a line.
+    /// Judges the result of the call of a line.
     fn note(&mut self, number: usize, call: &str, wanted: &str, answer: &str) -> Result<(), Stop> {
         if self.failed.is_some() {
             if answer == after_failure(call) {
@@ -98,14 +100,14 @@ impl Ran {
     }
 }
 
-/// The call of a line, and its answer.
+/// Returns the call of a line, and its result.
 fn call_of(line: &str) -> (&str, &str) {
     let (answered, _) = line.split_once(';').unwrap_or((line, ""));
     answered.split_once(" > ").unwrap_or((answered, "Ok"))
 }
 
-/// A box shows the steps with its mark: all of them, or where the checker has failed those of the
-/// lines before, and perhaps some of the line of the failure.
+/// Checks that a box shows the steps with its mark: all of them, or if the checker has failed those
+/// of the lines before, and perhaps some of the line of the failure.
 fn is_told(script: &str, mark: &str, failed: Option<usize>, output: &[u8]) -> Result<(), Stop> {
     let Ok(text) = str::from_utf8(output) else {
         return Err(Stop::Wrong(Wrong::Boxes));
@@ -123,7 +125,7 @@ fn is_told(script: &str, mark: &str, failed: Option<usize>, output: &[u8]) -> Re
     Ok(())
 }
 
-/// How many steps with the mark stand in this many lines.
+/// Returns how many steps with the mark are in this many lines.
 fn marked_before(script: &str, mark: &str, lines: usize) -> usize {
     let mut count = 0usize;
     for line in script.lines().take(lines) {
@@ -132,14 +134,14 @@ fn marked_before(script: &str, mark: &str, lines: usize) -> usize {
     count
 }
 
-/// How many steps with the mark stand in a line.
+/// Returns how many steps with the mark are in a line.
 fn marked(line: &str, mark: &str) -> usize {
     line.split(';')
         .filter(|part| part.starts_with(mark))
         .count()
 }
 
-/// Whether a text consists of whole lines, the first steps with the mark.
+/// Returns whether a text consists of whole lines, the first steps with the mark.
 fn is_beginning(script: &str, mark: &str, text: &str) -> bool {
     let mut rest = text;
     for part in script.split(';') {
@@ -156,7 +158,7 @@ fn is_beginning(script: &str, mark: &str, text: &str) -> bool {
     rest.is_empty()
 }
 
-/// What follows a line that a text begins with.
+/// Returns the rest of a text after a line that it begins with, if it does.
 fn after_line<'a>(text: &'a str, line: &str) -> Option<&'a str> {
     text.strip_prefix(line)?.strip_prefix('\n')
 }

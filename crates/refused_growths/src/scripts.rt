@@ -1,7 +1,7 @@
 //! Worked rows as scripts.
 //!
-//! A line is a call, and what is seen of it where no memory is refused: ` > ANSWER` where it isn't
-//! `Ok`, and behind a semicolon the steps that are told, ` + STEP;` to processors and ` ~ STEP;` to
+//! A line is a call, and its result if no memory is refused: ` > ANSWER` if it isn't `Ok`, and
+//! after a semicolon the steps that are delivered, ` + STEP;` to processors and ` ~ STEP;` to
 //! transcripts.
 
 /// A refutation of the four clauses over two variables.

@@ -20,7 +20,7 @@ abbrev pub has_bytes : List ℕ → Bool
 has_bytes [] = false
 has_bytes (b ∷ bs) = true
 
--- the words of a line: what stands between blanks
+-- the words of a line: what is between blanks
 abbrev pub words_of : List ℕ → List (List ℕ)
 words_of line = filter has_bytes (slice_split is_blank line)
 
@@ -36,12 +36,12 @@ abbrev pub value_of : List ℕ → Option ℕ
 value_of [] = None
 value_of (d ∷ ds) = value_from 0 (d ∷ ds)
 
--- what digits of this value say, or no digits, after a `-` or not
+-- the token of digits with this value, or of no digits, with a `-` before them or not
 abbrev pub judged : Bool → Option ℕ → Token
 judged negative None = tokens.Wrong BadNumber
 judged negative (Some v) = value_token negative v
 
--- what a word says as a token
+-- the token of a word
 abbrev pub token_of_word : List ℕ → Token
 token_of_word [] = tokens.Wrong BadNumber
 token_of_word (b ∷ bs) = if b == minus_sign then judged true (value_of bs)
@@ -87,25 +87,25 @@ kind_of_line line = kind_by (find (λ b. not (is_blank b)) line)
 
 -- ---- clauses
 
--- a token after these literals of an open clause; `next` tells what follows from the clause that is open then
+-- one token, after the literals of an unfinished clause; `next` goes on with the literals after it
 abbrev pub token_then : ℕ → List ℕ → Token → (List ℕ → Outcome) → Outcome
 token_then line begun tokens.Zero next = with_clause begun (next [])
 token_then line begun (tokens.Literal code) next = next (begun ++ code ∷ [])
 token_then line begun (tokens.Wrong kind) next = ([], Faulty line kind)
 
--- the tokens of a line, after these literals of an open clause
+-- the tokens of a line, after the literals of an unfinished clause
 unfoldable pub tokens_from : ℕ → List ℕ → List (List ℕ) → (List ℕ → Outcome) → Outcome
 tokens_from line begun [] next = next begun
 tokens_from line begun (w ∷ ws) next =
     token_then line begun (token_of_word w) (λ still. tokens_from line still ws next)
 
--- a header's line, where a number or a header came before it or none
+-- a header's line; the first `Bool` says whether a number or a header came before it
 abbrev pub header_then : ℕ → Bool → Bool → Outcome → Outcome
 header_then line true right next = ([], Faulty line LateHeader)
 header_then line false true next = next
 header_then line false false next = ([], Faulty line BadHeader)
 
--- a line of this kind; `next` tells what follows once a number or a header has come or none, with this open clause
+-- a line of this kind; `seen`: whether a number or a header came before; `next` goes on from there
 abbrev pub line_then : LineKind → ℕ → Bool → List ℕ → List ℕ → (Bool → List ℕ → Outcome) → Outcome
 line_then EmptyLine line seen begun bytes next = next seen begun
 line_then CommentLine line seen begun bytes next = next seen begun
@@ -114,7 +114,7 @@ line_then HeaderLine line seen begun bytes next =
     header_then line seen (is_header (words_of bytes)) (next true begun)
 line_then TokenLine line seen begun bytes next = tokens_from line begun (words_of bytes) (next true)
 
--- the lines after the one of this number, once a number or a header has come or none, with these literals of an open clause
+-- the lines after the one with the number `before`; `begun`: the literals of an unfinished clause
 unfoldable pub lines_from : ℕ → Bool → List ℕ → List (List ℕ) → Outcome
 lines_from before seen begun [] = ([], finish before begun)
 lines_from before seen begun (l ∷ ls) =

@@ -12,11 +12,11 @@ pub data Ending : Type 0 where
 abbrev pub Outcome : Type 0
 Outcome = List (List ℕ) × Ending
 
--- an outcome behind this clause
+-- an outcome with this clause in front
 abbrev pub with_clause : List ℕ → Outcome → Outcome
 with_clause clause o = (clause ∷ o.0, o.1)
 
--- the end of a formula on this line, with these literals of an open clause
+-- the end of a formula on this line, with the literals of an unfinished clause
 abbrev pub finish : ℕ → List ℕ → Ending
 finish line [] = Ended
 finish line (l ∷ lits) = Faulty line UnterminatedClause

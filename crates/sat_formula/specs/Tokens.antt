@@ -5,7 +5,7 @@ use Rattle.sat_formula.specs.declared.word.Token.{Token}
 use Rattle.sat_formula.specs.declared.word.Token.TheVariants.{Zero, Literal, Wrong}
 use Rattle.sat_formula.specs.Vars.{lit_code}
 
--- of digits of this value, after a `-` or not: the end of a clause, a literal, or nothing that is right
+-- digits with this value, with a `-` before them or not: the end of a clause, a literal, or a wrong token
 abbrev pub value_token : Bool → ℕ → Token
 value_token negative v =
     if v == 0 then (if negative then Wrong BadNumber else Zero)

@@ -8,8 +8,8 @@ use crate::word::Number;
 /// Numbers of this many digits are read at once. The value of none of them is cut.
 const FEW_DIGITS: usize = 9;
 
-/// A number of few digits in front, how many bytes it takes, and the blank or the LF after it.
-/// None is found where this many bytes as the longest takes aren't there.
+/// Returns a number of few digits in front, how many bytes it takes, and the blank or the LF after
+/// it. None is found where this many bytes as the longest takes aren't there.
 #[inline(always)]
 pub(crate) fn short_number(bytes: &[u8]) -> Option<(Number, usize, u8)>
     ensures { IfSome result (λ r. IsShortNumber bytes.now r.0 r.1 r.2) }
@@ -18,7 +18,7 @@ pub(crate) fn short_number(bytes: &[u8]) -> Option<(Number, usize, u8)>
         return None;
     }
     let negative = bytes[0] == b'-';
-    // Added and not branched on: of the signs in a row none tells the next.
+    // Added and not branched on: signs of neighbouring literals predict nothing.
     let sign = negative as usize;
     let (value, digits) = few_digits(&bytes[sign..]);
     if digits == 0 {
@@ -32,8 +32,8 @@ pub(crate) fn short_number(bytes: &[u8]) -> Option<(Number, usize, u8)>
     Some((Number::Digits { negative, value }, len, end))
 }
 
-/// The value of the digits in front, and how many they are. The bound is a constant, so no count is
-/// kept.
+/// Returns the value of the digits in front, and how many they are. The bound is a constant, so no
+/// count is kept.
 #[inline(always)]
 fn few_digits(bytes: &[u8]) -> (u64, usize)
     requires { 9 ≤ length bytes.now }

@@ -28,7 +28,7 @@ impl Model for CnfFormula {
 }
 
 impl CnfFormula {
-    /// The formula without clauses.
+    /// Returns the formula without clauses. Allocates no memory.
     pub fn new(alloc: Global) -> CnfFormula
         ensures { result ≡ [] }
     {
@@ -39,7 +39,11 @@ impl CnfFormula {
         }
     }
 
-    /// Adds a clause at the end.
+    /// Adds a clause after all others.
+    ///
+    /// # Errors
+    ///
+    /// `AllocError` if memory runs out; the formula is unchanged.
     pub fn add_clause(&mut self, clause: &[Lit]) -> Result<(), AllocError>
         ensures ok { OnOk result (self.new ≡ self.old ++ clause.now ∷ []) }
         ensures err { OnErr result (self.new ≡ self.old) }
@@ -51,28 +55,28 @@ impl CnfFormula {
         Ok(())
     }
 
-    /// How many clauses there are.
+    /// Returns how many clauses there are.
     pub fn len(&self) -> usize
         ensures { result ≡ length self.now }
     {
         self.lengths.len()
     }
 
-    /// Whether there is no clause.
+    /// Returns whether there is no clause.
     pub fn is_empty(&self) -> bool
         ensures { IsTrue result ↔ (self.now ≡ []) }
     {
         self.lengths.is_empty()
     }
 
-    /// The largest index of a variable and 1, or 0 where there is no literal.
+    /// Returns the largest index of a variable and 1, or 0 where there is no literal.
     pub fn var_count(&self) -> usize
         ensures { result ≡ var_count_of self.now }
     {
         self.var_count
     }
 
-    /// The clauses, in their order.
+    /// Returns the clauses, in their order.
     pub fn iter(&self) -> CnfClauses<'_>
         ensures { result ≡ self.now }
     {
@@ -95,7 +99,7 @@ impl<'a> IntoIterator for &'a CnfFormula {
     }
 }
 
-/// The clauses of a formula that are still to come, in their order.
+/// An iterator over the clauses of a formula, in order.
 #[derive(Drop)]
 pub struct CnfClauses<'a> {
     lits: &'a [Lit],
@@ -132,7 +136,7 @@ impl<'a> Iterator for CnfClauses<'a> {
     }
 }
 
-/// The variables of a clause beside those counted: at least its largest index and 1.
+/// Returns the number of variables after one more clause: at least its largest index plus 1.
 #[inline(always)]
 pub(crate) fn count_vars(count: usize, clause: &[Lit]) -> usize
     ensures { result ≡ vars_with count clause.now }

@@ -1,4 +1,4 @@
-//! The two counts of a header, and what was read beside them.
+//! The two counts of a header, and those of what was read.
 ghost use Rattle.std.specs.Prelude.{◌≡◌};
 ghost use Rattle.sat_formula.specs.Counts.{count_after, counts_after, is_lie, lie_of, no_counts};
 
@@ -6,14 +6,15 @@ use crate::word::Header;
 use std::fmt;
 use std::fmt::{Display, Formatter};
 
-/// How many variables there are, by the largest one, and how many clauses. Both stay at `u64::MAX`.
+/// How many variables there are, by the largest one, and how many clauses. Both saturate at
+/// `u64::MAX`.
 #[derive(Clone, Copy, Debug, PartialEq, Eq)]
 pub struct Counts {
     pub variables: u64,
     pub clauses: u64,
 }
 
-/// A header that says something else than what was read.
+/// A header that disagrees with what was read: the counts of the header, and those of the text.
 #[derive(Clone, Copy, Debug, PartialEq, Eq)]
 pub struct LyingHeader {
     pub said: Counts,
@@ -35,7 +36,7 @@ impl Display for LyingHeader {
 }
 
 impl Counts {
-    /// Before the first digit of a header.
+    /// Returns the counts before the first digit of a header.
     pub(crate) fn none() -> Counts
         ensures { result ≡ no_counts }
     {
@@ -45,7 +46,7 @@ impl Counts {
         }
     }
 
-    /// With one byte more of a header, which leads to this part of it.
+    /// Returns the counts after one more byte of a header, which leads to this part of it.
     pub(crate) fn after(self, header: Header, byte: u8) -> Counts
         ensures { result ≡ counts_after header self byte }
     {
@@ -58,7 +59,7 @@ impl Counts {
         counts
     }
 
-    /// The header, where it says fewer variables than were read, or another number of clauses.
+    /// Returns the header, if it says fewer variables than were read, or another number of clauses.
     pub(crate) fn lie(self, said: Option<Counts>) -> Option<LyingHeader>
         ensures { result ≡ lie_of said self }
     {
@@ -70,14 +71,14 @@ impl Counts {
     }
 }
 
-/// Whether a header says fewer variables, or another number of clauses.
+/// Returns whether a header says fewer variables, or another number of clauses.
 fn is_lie(said: Counts, counts: Counts) -> bool
     ensures { result ≡ is_lie said counts }
 {
     said.variables < counts.variables || said.clauses != counts.clauses
 }
 
-/// The value of digits and one more.
+/// Returns the value of digits and one more.
 fn count_after(value: u64, byte: u8) -> u64
     ensures { result ≡ count_after value byte }
 {

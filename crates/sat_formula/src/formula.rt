@@ -11,9 +11,11 @@ use crate::fault::DimacsFault;
 use std::alloc::Global;
 use std::io::Read;
 
-/// Reads a formula as DIMACS text, the whole of it, or answers the first fault.
+/// Reads a whole formula as DIMACS text.
 ///
-/// On a fault the clauses before it are dropped.
+/// # Errors
+///
+/// The first fault of the text, a failed read or out of memory. The clauses before it are dropped.
 pub fn read_formula<F: Read + Drop>(alloc: Global, cnf: F) -> Result<CnfFormula, DimacsFault>
     ensures whole { IfOk result (λ formula.
         IsOutcome (option_map outcome_of (F.remaining cnf)) (formula, Ended)) }

@@ -37,14 +37,14 @@ impl Var {
     /// This many variables there can be at most.
     pub const MAX_COUNT: usize = 0x1000_0000;
 
-    /// `MAX_COUNT`, as a function.
+    /// Returns `MAX_COUNT`.
     pub const fn max_count() -> usize
         ensures { result ≡ 2 ^ 28 }
     {
         Var::MAX_COUNT
     }
 
-    /// The variable of an index below `MAX_COUNT`.
+    /// Returns the variable of an index below `MAX_COUNT`.
     pub fn from_index(index: usize) -> Option<Var>
         ensures { SomeIff (indexes_of result) (index < 2 ^ 28) index }
     {
@@ -57,7 +57,7 @@ impl Var {
         }
     }
 
-    /// The variable of a number from 1 to `MAX_COUNT`.
+    /// Returns the variable of a number from 1 to `MAX_COUNT`.
     pub fn from_dimacs(number: i64) -> Option<Var>
         ensures value { IfSome result (λ var. dimacs_var (index_of var) ≡ number) }
         ensures range { IsSome result ↔ ((pos 0 <ℤ number) × (number ≤ℤ pos (2 ^ 28))) }
@@ -71,7 +71,7 @@ impl Var {
         }
     }
 
-    /// Below `MAX_COUNT`.
+    /// Returns the index of the variable, which is below `MAX_COUNT`.
     pub fn index(self) -> usize
         ensures value { result ≡ index_of self }
         ensures bound { result < 2 ^ 28 }
@@ -79,14 +79,14 @@ impl Var {
         self.index as usize
     }
 
-    /// The index and 1.
+    /// Returns the index and 1.
     pub fn to_dimacs(self) -> i64
         ensures { result ≡ dimacs_var (index_of self) }
     {
         self.index as i64 + 1
     }
 
-    /// The literal of this variable, positive or negative.
+    /// Returns the literal of this variable, positive or negative.
     pub fn lit(self, positive: bool) -> Lit
         ensures { result ≡ 2 * index_of self + (if positive then 0 else 1) }
     {
@@ -100,7 +100,7 @@ impl Lit {
     ghost use Rattle.sat_formula.specs.Vars.{index_of, dimacs_lit, lit_code, IsMapped};
     ghost use Rattle.sat_formula.specs.declared.lit.Var.{Var};
 
-    /// The literal of a code below twice `Var::MAX_COUNT`.
+    /// Returns the literal of a code below twice `Var::MAX_COUNT`.
     pub fn from_code(code: usize) -> Option<Lit>
         ensures { SomeIff result (code < 2 ^ 29) code }
     {
@@ -111,8 +111,8 @@ impl Lit {
         }
     }
 
-    /// The literal of a number with an absolute value from 1 to `Var::MAX_COUNT`, negative where
-    /// the number is.
+    /// Returns the literal of a number with an absolute value from 1 to `Var::MAX_COUNT`, negative
+    /// where the number is.
     pub fn from_dimacs(number: i64) -> Option<Lit>
         ensures value { IfSome result (λ lit. dimacs_lit lit ≡ number) }
         ensures range { IsSome result
@@ -121,7 +121,7 @@ impl Lit {
         Lit::of_digits(number < 0, number.unsigned_abs())
     }
 
-    /// The literal of digits of a value from 1 to `Var::MAX_COUNT`, after a `-` or not.
+    /// Returns the literal of digits of a value from 1 to `Var::MAX_COUNT`, after a `-` or not.
     #[inline(always)]
     pub fn of_digits(negative: bool, value: u64) -> Option<Lit>
         ensures { SomeIff result ((0 < value) × (value ≤ 2 ^ 28)) (lit_code value negative) }
@@ -135,7 +135,7 @@ impl Lit {
         }
     }
 
-    /// Twice the index of its variable, and 1 more where it is negative.
+    /// Returns twice the index of its variable, and 1 more if it is negative.
     pub fn code(self) -> usize
         ensures value { result ≡ self }
         ensures bound { result < 2 ^ 29 }
@@ -143,7 +143,7 @@ impl Lit {
         self.code as usize
     }
 
-    /// The index of the literal's variable.
+    /// Returns the index of the literal's variable.
     pub fn index(self) -> usize
         ensures value { result ≡ var_of self }
         ensures bound { result < 2 ^ 28 }
@@ -151,7 +151,7 @@ impl Lit {
         (self.code >> 1) as usize
     }
 
-    /// Its variable, without the sign.
+    /// Returns the literal's variable.
     pub fn var(self) -> Var
         ensures { index_of result ≡ var_of self }
     {
@@ -160,21 +160,21 @@ impl Lit {
         }
     }
 
-    /// Whether it is its variable.
+    /// Returns whether it is its variable.
     pub fn is_positive(self) -> bool
         ensures { result ≡ not (is_negative self) }
     {
         self.code & 1 == 0
     }
 
-    /// Whether it is the negation of its variable.
+    /// Returns whether it is the negation of its variable.
     pub fn is_negative(self) -> bool
         ensures { result ≡ is_negative self }
     {
         self.code & 1 == 1
     }
 
-    /// The literal of the variable that `map` gives for this one's, with the same sign.
+    /// Returns the literal of the variable that `map` gives for this one's, with the same sign.
     pub fn map_var<F: FnOnce(Var) -> Var>(self, map: F) -> Lit
         requires { (var : Var) → index_of var ≡ var_of self → F.pre map var }
         ensures { IsMapped (F.post map) self result }
@@ -182,7 +182,7 @@ impl Lit {
         map(self.var()).lit(self.is_positive())
     }
 
-    /// The number of the variable, negated where the literal is negative.
+    /// Returns the number of the variable, negated where the literal is negative.
     pub fn to_dimacs(self) -> i64
         ensures { result ≡ dimacs_lit self }
     {

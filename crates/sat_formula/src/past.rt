@@ -1,22 +1,23 @@
-//! What came before in a text.
+//! What was read before in a text.
 ghost use Rattle.std.specs.Prelude.{◌≡◌};
 ghost use Rattle.sat_formula.specs.Past.{nothing_past, past_after, with_header};
 
 use crate::counts::Counts;
 use crate::word::Token;
 
-/// What came before in a text.
+/// What was read before in a text.
 #[derive(Clone, Copy)]
 pub(crate) struct Past {
     /// A number or a header.
     pub(crate) seen: bool,
     /// The counts of the header.
     pub(crate) header: Option<Counts>,
-    /// The line on which the last clause ends; lines count from 1, and 0 stands for no clause.
+    /// The line on which the last clause ends; lines count from 1, and 0 means no clause.
     pub(crate) clause_line: u64,
 }
 
 impl Past {
+    /// Returns what was read before a text: nothing.
     pub(crate) fn nothing() -> Past
         ensures { result ≡ nothing_past }
     {
@@ -27,7 +28,7 @@ impl Past {
         }
     }
 
-    /// A header ends, with these counts.
+    /// Returns this with a header of these counts.
     pub(crate) fn with_header(self, counts: Counts) -> Past
         ensures { result ≡ with_header self counts }
     {

@@ -11,18 +11,18 @@ pub fn text_is_read()
     ensures { TextIsRead }
 {}
 
-/// A checker that holds the formula accepts what a writer writes of a run without a fault.
+/// A checker with the formula accepts what a writer writes of a run without a fault.
 pub fn text_is_accepted()
     ensures { TextIsAccepted }
 {}
 
-/// A new writer that takes steps in turn answers no fault, and has written their lines.
+/// A new writer that takes steps in turn without a fault has written their lines.
 pub fn writer_shows_run()
     ensures { WriterShowsRun }
 {}
 
-/// A checker that holds the formula accepts what a new writer wrote of a run, and answers true
-/// exactly where a step derives the empty clause.
+/// A checker with the formula accepts what a new writer wrote of a run, and returns true exactly if
+/// a step derives the empty clause.
 pub fn writer_is_accepted()
     ensures { WriterIsAccepted }
 {}

@@ -15,22 +15,22 @@ use sat_formula::lit::Lit;
 use std::alloc::{AllocError, Global};
 use std::collections::HashSet;
 
-/// Writes the steps that it is told as lines of hints in the LRAT format.
+/// Writes the steps that it receives as lines of hints in the LRAT format.
 ///
-/// The clauses of the formula have the numbers from 1 on, in their order; the number of any other
-/// clause comes after all that were announced. So a writer is told all input clauses first, and as
-/// many as were announced at most. `output` is the text written so far. After a fault it is as
-/// before.
+/// The clauses of the formula have the numbers from 1 on, in order; the number of any other clause
+/// comes after all that were announced. So the writer must receive all input clauses first, and at
+/// most as many as were announced. `output` is the text written so far. A step with an error
+/// changes nothing.
 #[derive(Drop)]
 pub struct LratWriter {
     alloc: Global,
-    /// This many clauses the formula has.
+    /// How many clauses the formula has.
     announced: u64,
-    /// The ids of the input clauses that were told.
+    /// The ids of the input clauses that were received.
     inputs: HashSet<u64>,
-    /// This many input clauses were told.
+    /// How many input clauses were received.
     told: u64,
-    /// Whether a derived clause was told.
+    /// Whether a derived clause was received.
     derived: bool,
     /// The number of the last line that adds a clause.
     last: u64,
@@ -38,7 +38,7 @@ pub struct LratWriter {
 }
 
 impl LratWriter {
-    /// A writer for a formula of this many clauses.
+    /// Returns a writer for a formula of this many clauses.
     pub fn new(alloc: Global, clauses: u64) -> LratWriter
         ensures writer { writer_of result ≡ new_writer clauses }
         ensures text { written result ≡ [] }
@@ -54,7 +54,13 @@ impl LratWriter {
         }
     }
 
-    /// Writes the line of a step, where it has one. After a fault the writer is as it was.
+    /// Writes the line of a step, if it has one.
+    ///
+    /// # Errors
+    ///
+    /// `InputAfterDerived` and `TooManyInputs` for an input clause out of place, `NumberOutOfRange`
+    /// if an id's number is 2^64 or more, `OutOfMemory` if memory runs out. The writer is
+    /// unchanged.
     pub fn write_step(&mut self, step: &CheckedProofStep) -> Result<(), WriterFault>
         ensures ok { OnOk result (Wrote self.old (step_of step.now) self.new) }
         ensures err { OnErr result (WroteNothing self.old self.new) }
@@ -124,7 +130,7 @@ impl LratWriter {
         Ok(())
     }
 
-    /// Writes the line by which a clause goes.
+    /// Writes the line that deletes a clause.
     fn write_deletion(&mut self, id: u64) -> Result<(), WriterFault>
         ensures ok { OnOk result (WroteLine self.old (removes id) self.new) }
         ensures err { OnErr result (WroteNothing self.old self.new) }
@@ -137,7 +143,7 @@ impl LratWriter {
         Ok(())
     }
 
-    /// The line that adds a clause under its number.
+    /// Returns the line that adds a clause under its number.
     fn addition(
         &self,
         number: u64,
@@ -160,7 +166,7 @@ impl LratWriter {
         Ok(line)
     }
 
-    /// The line that deletes the clause of a number.
+    /// Returns the line that deletes the clause of a number.
     fn deletion(&self, number: u64) -> Result<Vec<u8>, AllocError>
         ensures { IfOk result (λ line. line.items
             ≡ lines_text (deletes_clauses self.now.last (number ∷ []) ∷ [])) }
@@ -190,7 +196,7 @@ impl LratWriter {
         Ok(())
     }
 
-    /// The number of an id, where it is below 2^64.
+    /// Returns the number of an id, if it is below 2^64.
     fn number(&self, id: u64) -> Option<u64>
         ensures { result ≡ fitting (number_of (writer_of self.now) id) }
     {
@@ -201,7 +207,7 @@ impl LratWriter {
         }
     }
 
-    /// The number of a clause that is no input clause.
+    /// Returns the number of a clause that is no input clause.
     fn later_number(&self, id: u64) -> Option<u64>
         ensures { result ≡ fitting (self.now.announced + suc id) }
     {

@@ -11,7 +11,7 @@ use std::alloc::{AllocError, Global};
 use std::io;
 use std::io::ErrorKind;
 
-/// The bytes of a line. Of a hint with an id of 2^63 or more there are none: `InvalidData`.
+/// Returns the bytes of a line. Of a hint with an id of 2^63 or more there are none: `InvalidData`.
 pub(crate) fn bytes_of(alloc: Global, line: LratLine<'_>) -> io::Result<Vec<u8>>
     ensures whole { IfOk result (λ bytes. bytes.items ≡ line_bytes (view line.entry)) }
     ensures large { HasLargeHint (view line.entry) → IsErr result }
@@ -22,7 +22,7 @@ pub(crate) fn bytes_of(alloc: Global, line: LratLine<'_>) -> io::Result<Vec<u8>>
     }
 }
 
-/// The bytes of a line that adds a clause.
+/// Returns the bytes of a line that adds a clause.
 fn addition(alloc: Global, id: u64, clause: &[Lit], hints: &[Hint]) -> io::Result<Vec<u8>>
     ensures whole { IfOk result (λ bytes. bytes.items
         ≡ line_bytes (adds id clause.now (map hint_of hints.now))) }
@@ -38,7 +38,7 @@ fn addition(alloc: Global, id: u64, clause: &[Lit], hints: &[Hint]) -> io::Resul
     Ok(bytes)
 }
 
-/// The bytes of a line that deletes clauses.
+/// Returns the bytes of a line that deletes clauses.
 fn deletion(alloc: Global, ids: &[u64]) -> io::Result<Vec<u8>>
     ensures { IfOk result (λ bytes. bytes.items ≡ line_bytes (deletes ids.now)) }
 {

@@ -14,10 +14,11 @@ use std::io::Write;
 use whole_writes::append_whole;
 
 /// Writes a formula as DIMACS text: a header with its numbers of variables and of clauses, and a
-/// line for each clause.
+/// line for each clause. A buffered writer may keep some of it back.
 ///
-/// After an error a beginning of the text is written. A writer with a buffer may hold some of it
-/// back.
+/// # Errors
+///
+/// That of the writer, or out of memory. A beginning of the text is written then.
 pub fn write_formula<W: Write>(alloc: Global, out: &mut W, formula: &CnfFormula) -> io::Result<()>
     ensures whole { OnOk result (Appends (W.contents out.old) (W.contents out.new)
         (formula_text formula.now)) }
@@ -53,7 +54,7 @@ fn write_clause<W: Write>(alloc: Global, out: &mut W, clause: &[Lit]) -> io::Res
     append_whole(out, &text)
 }
 
-/// The header's text, with its LF.
+/// Returns the header's text, with its LF.
 fn header(alloc: Global, formula: &CnfFormula) -> Result<Vec<u8>, AllocError>
     ensures { IfOk result (λ text. text.items ≡ header_text formula.now ++ 10 ∷ []) }
 {
@@ -65,7 +66,7 @@ fn header(alloc: Global, formula: &CnfFormula) -> Result<Vec<u8>, AllocError>
     Ok(text)
 }
 
-/// A clause's text, with its LF.
+/// Returns a clause's text, with its LF.
 fn clause_line(alloc: Global, clause: &[Lit]) -> Result<Vec<u8>, AllocError>
     ensures { IfOk result (λ text. text.items ≡ clause_text clause.now ++ 10 ∷ []) }
 {

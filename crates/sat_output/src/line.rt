@@ -19,12 +19,15 @@ use std::io;
 use std::io::Write;
 use whole_writes::append_whole;
 
-/// Writes a line of an LRAT proof; of text with its LF.
+/// Writes a line of an LRAT proof, text with its LF. A buffered writer may keep some of it back.
 ///
 /// `last` is the number in front of a line of text that deletes clauses: by custom that of the last
-/// clause that was added. After an error a beginning of the line is written, and nothing where
-/// there was no memory for it, or where a hint of a binary line has an id of 2^63 or more, which is
-/// `InvalidData`. A writer with a buffer may hold some of it back.
+/// clause that was added.
+///
+/// # Errors
+///
+/// That of the writer, after which a beginning of the line is written. With nothing written: out of
+/// memory, and `InvalidData` if a hint of a binary line has an id of 2^63 or more.
 pub fn write_lrat_line<W: Write>(
     alloc: Global,
     out: &mut W,
@@ -43,7 +46,7 @@ pub fn write_lrat_line<W: Write>(
     append_whole(out, &line)
 }
 
-/// A line in its form.
+/// Returns a line in its form.
 fn line_in(alloc: Global, form: LineForm, last: u64, line: LratLine<'_>) -> io::Result<Vec<u8>>
     ensures whole { IfOk result (λ bytes. bytes.items
         ≡ lines_in form last (view line.entry ∷ [])) }
@@ -55,7 +58,7 @@ fn line_in(alloc: Global, form: LineForm, last: u64, line: LratLine<'_>) -> io::
     }
 }
 
-/// The number in front of a deletion after this line: its own id, where it adds a clause.
+/// Returns the number in front of a deletion after this line: its own id, if it adds a clause.
 pub fn number_after(last: u64, line: LratLine<'_>) -> u64
     ensures { result ≡ last_after last (view line.entry) }
 {
@@ -65,7 +68,7 @@ pub fn number_after(last: u64, line: LratLine<'_>) -> u64
     }
 }
 
-/// The text of a line, with its LF.
+/// Returns the text of a line, with its LF.
 fn text_of(alloc: Global, last: u64, line: LratLine<'_>) -> Result<Vec<u8>, AllocError>
     ensures { IfOk result (λ text. text.items ≡ lines_text last (view line.entry ∷ [])) }
 {
@@ -75,7 +78,7 @@ fn text_of(alloc: Global, last: u64, line: LratLine<'_>) -> Result<Vec<u8>, Allo
     }
 }
 
-/// The text of a line that adds a clause.
+/// Returns the text of a line that adds a clause.
 fn addition(alloc: Global, id: u64, clause: &[Lit], hints: &[Hint]) -> Result<Vec<u8>, AllocError>
     ensures { IfOk result (λ text. text.items
         ≡ line_text (addition_words id clause.now (map hint_of hints.now)) ++ 10 ∷ []) }
@@ -89,7 +92,7 @@ fn addition(alloc: Global, id: u64, clause: &[Lit], hints: &[Hint]) -> Result<Ve
     Ok(text)
 }
 
-/// The text of a line that deletes clauses.
+/// Returns the text of a line that deletes clauses.
 fn deletion(alloc: Global, last: u64, ids: &[u64]) -> Result<Vec<u8>, AllocError>
     ensures { IfOk result (λ text. text.items
         ≡ line_text (deletion_words last ids.now) ++ 10 ∷ []) }

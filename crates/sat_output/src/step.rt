@@ -7,6 +7,10 @@ use sat_formula::Lit;
 use std::alloc::AllocError;
 
 /// Appends a step that adds a clause, with its LF.
+///
+/// # Errors
+///
+/// `AllocError` if memory runs out.
 pub fn push_addition(text: &mut Vec<u8>, clause: &[Lit]) -> Result<(), AllocError>
     ensures { OnOk result (text.new.items ≡ text.old.items ++ addition_text clause.now) }
 {
@@ -16,6 +20,10 @@ pub fn push_addition(text: &mut Vec<u8>, clause: &[Lit]) -> Result<(), AllocErro
 }
 
 /// Appends a step that deletes a clause, with its LF.
+///
+/// # Errors
+///
+/// `AllocError` if memory runs out.
 pub fn push_deletion(text: &mut Vec<u8>, clause: &[Lit]) -> Result<(), AllocError>
     ensures { OnOk result (text.new.items ≡ text.old.items ++ deletion_text clause.now) }
 {

@@ -6,7 +6,7 @@ pub fn chains_are_sound()
     ensures { ChainsAreSound }
 {}
 
-/// A hint checker refuses no hint of a list exactly where the list is admitted for the clause.
+/// A hint checker rejects no hint of a list exactly where the list is admitted for the clause.
 pub fn hints_decide()
     ensures { HintsDecide }
 {}

@@ -3,8 +3,8 @@ ghost use Rattle.session_rules.specs.Copies.{CopiesHold};
 ghost use Rattle.session_rules.specs.Rounds.{AnswersAreTrue, RoundsFail, SessionsFail};
 ghost use Rattle.session_rules.specs.Rows.{SessionRows};
 
-/// Where no assignment satisfies some rounds that are written as one formula, the core of each
-/// fails over its clauses and those of the rounds before it.
+/// If no assignment satisfies some rounds that are written as one formula, the core of each fails
+/// over its clauses and those of the rounds before it.
 pub fn rounds_fail()
     ensures { RoundsFail }
 {}
@@ -14,8 +14,8 @@ pub fn sessions_fail()
     ensures { SessionsFail }
 {}
 
-/// Where no assignment satisfies the formula of a session, each core is of what was assumed, and
-/// each query that is said to be satisfiable has a model, every answer is true.
+/// If no assignment satisfies the formula of a session, each core is of what was assumed, and each
+/// query that is said to be satisfiable has a model, every answer is true.
 pub fn answers_are_true()
     ensures { AnswersAreTrue }
 {}

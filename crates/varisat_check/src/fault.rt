@@ -1,9 +1,9 @@
-//! Why a run comes to no verdict.
+//! Why a run has no verdict.
 use checker_parts::error::{CheckerError, DimacsError};
 use std::io;
 use thiserror::Error;
 
-/// What a run answers in place of a verdict.
+/// Why a run has no verdict.
 #[derive(Debug, Drop, Error)]
 pub enum RunFault {
     /// The formula was not added whole.
@@ -12,7 +12,7 @@ pub enum RunFault {
     /// The proof was not accepted up to its end.
     #[error("{0}")]
     Proof(CheckerError),
-    /// The verdict stands, and its line could not be written.
+    /// The verdict was reached, but its line could not be written.
     #[error("error writing: {0}")]
     Write(io::Error),
 }

@@ -8,11 +8,12 @@ use sat_formula::{CnfFormula, LyingHeader};
 use std::alloc::Global;
 use std::io::Read;
 
-/// Reads a formula as DIMACS text, the whole of it, or answers the first fault, as that of a run.
-/// `lie` tells what its header lies about; after a fault that is nothing.
+/// Reads a whole formula as DIMACS text. `lie` gets the mismatch of its header, if there is one.
 ///
-/// A failed read and running out of memory are answered where they come. On a fault the clauses
-/// before it are dropped.
+/// # Errors
+///
+/// `RunFault::Formula` with the first fault of the text, a failed read or out of memory. The
+/// clauses before it are dropped, and `lie` is `None`.
 pub fn read_formula<F: Read + Drop>(
     alloc: Global,
     cnf: F,

@@ -23,13 +23,18 @@ use whole_writes::write_whole;
 /// A checker with processors of one type, and no transcripts.
 type WriterChecker<P> = CheckerOf<P, Box<dyn ProofTranscriptProcessor>>;
 
-/// Adds a formula to a new checker with a writer, checks the proof, and writes the writer's output
-/// and then the verdict's line.
+/// Adds a formula to a new checker with a writer, checks the proof, writes the writer's output and
+/// then the verdict's line. Returns the verdict and the writer.
 ///
-/// The writer is registered before anything else, so it is told every step, and it is handed back.
-/// Nothing is written unless the whole proof is accepted. Where a write fails, the verdict stood: a
-/// beginning of the output is written and nothing of the line, or the whole output and a beginning
-/// of the line. On every fault the writer is dropped.
+/// The writer is registered first, so it receives every step. Nothing is written unless the whole
+/// proof is accepted.
+///
+/// # Errors
+///
+/// `Formula` if the formula was not added, `Proof` if the proof was not accepted, both with nothing
+/// written. `Write` if a write failed after the verdict was reached: a beginning of the output is
+/// written and nothing of the line, or the whole output and a beginning of the line. The writer is
+/// dropped.
 pub fn run_lrat<L: Log, P: ProofProcessor, R: Read + Drop, W: Write, V: Write>(
     rt: &L,
     alloc: Global,

@@ -23,11 +23,16 @@ use varisat_checker::Checker;
 use varisat_checker::checker::CheckerOf;
 use whole_writes::write_whole;
 
-/// Checks a proof with a checker that has its formula, and writes the verdict's line.
+/// Checks a proof with a checker that has its formula, writes the verdict's line, and returns the
+/// verdict.
 ///
-/// Nothing is written unless the whole proof is accepted. Where the line can't be written whole,
-/// the verdict stood, and a beginning of the line is written. The checker stays in the state that
+/// Nothing is written unless the whole proof is accepted. The checker keeps the state that
 /// `check_proof` leaves.
+///
+/// # Errors
+///
+/// `Proof` if the proof was not accepted, with nothing written; `Write` if the line of a verdict
+/// that was reached could not be written whole: a beginning of it is.
 pub fn run_proof<L: Log, R: Read + Drop, W: Write, P: ProofProcessor, T: ProofTranscriptProcessor>(
     rt: &L,
     checker: &mut CheckerOf<P, T>,
@@ -63,11 +68,16 @@ pub fn run_proof<L: Log, R: Read + Drop, W: Write, P: ProofProcessor, T: ProofTr
     }
 }
 
-/// Adds a formula in DIMACS CNF to a new checker, checks the proof, and writes the verdict's line.
+/// Adds a formula in DIMACS CNF to a new checker, checks the proof, writes the verdict's line, and
+/// returns the verdict.
 ///
-/// The proof is read only once the formula was added whole. What is written is as for `run_proof`;
-/// nothing is where the formula can't be added whole. `lie` tells what the formula's header lies
-/// about; where the formula can't be added whole that is nothing.
+/// The proof is read only after the whole formula. `lie` gets the mismatch of the formula's header,
+/// if there is one.
+///
+/// # Errors
+///
+/// `Formula` if the formula was not added whole, with nothing written and `lie` `None`; else as for
+/// `run_proof`.
 pub fn run_check<L: Log, F: Read + Drop, P: Read + Drop, W: Write>(
     rt: &L,
     alloc: Global,
@@ -93,8 +103,8 @@ pub fn run_check<L: Log, F: Read + Drop, P: Read + Drop, W: Write>(
     run_proof(rt, &mut checker, proof, out)
 }
 
-/// The verdict of a checker that accepted a proof, and whose count of input clauses was this before
-/// it.
+/// Returns the verdict of a checker that accepted a proof, and whose count of input clauses was
+/// this before it.
 pub(crate) fn verdict_after<P: ProofProcessor, T: ProofTranscriptProcessor>(
     checker: &CheckerOf<P, T>,
     inputs: u64,

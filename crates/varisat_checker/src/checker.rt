@@ -16,7 +16,7 @@ use sat_formula::{CnfFormula, DimacsFault, DimacsReader, Lit, LyingHeader};
 use std::alloc::Global;
 use std::io::Read;
 
-/// A checker of unsatisfiability proofs, over its processors and transcripts.
+/// A checker of unsatisfiability proofs, generic over its processors and transcripts.
 #[derive(Drop)]
 pub struct CheckerOf<P, T> {
     ctx: ContextOf<P, T>,
@@ -44,7 +44,7 @@ impl<P: ProofProcessor, T: ProofTranscriptProcessor> CheckerOf<P, T> {
     ghost use Rattle.varisat_checker.specs.TextRun.{TextRun};
     ghost use Rattle.whole_formulas.specs.Lies.{TellsLie};
 
-    /// A checker with nothing stored. Takes no memory.
+    /// Returns a checker that stores nothing. Allocates no memory.
     pub fn new(alloc: Global) -> CheckerOf<P, T>
         ensures state { state result ≡ new_state }
         ensures processors { (listeners result).processors ≡ [] }
@@ -56,10 +56,15 @@ impl<P: ProofProcessor, T: ProofTranscriptProcessor> CheckerOf<P, T> {
         }
     }
 
-    /// Adds an input clause. It is refused where a variable of it has been sampled away, and where
-    /// no id is left.
+    /// Adds an input clause.
     ///
-    /// Where unsatisfiability is recorded the answer is Ok, and the checker stays as it was.
+    /// If unsatisfiability is recorded, returns `Ok` and changes nothing.
+    ///
+    /// # Errors
+    ///
+    /// `CheckFailed` if a variable of the clause was sampled away, or no clause id or count is
+    /// left. After `ProofProcessorError` (a listener failed) and `OutOfMemory` the checker has
+    /// failed: every later call returns `Failed`.
     pub fn add_clause(&mut self, clause: &[Lit]) -> Result<(), CheckerError>
         ensures failed { (state self.old).failed ≡ true → IsFailed result × (self.new ≡ self.old) }
         ensures step { (state self.old).failed ≡ false
@@ -90,7 +95,11 @@ impl<P: ProofProcessor, T: ProofTranscriptProcessor> CheckerOf<P, T> {
         answer
     }
 
-    /// Adds the clauses of a formula, in their order, up to the first that is refused.
+    /// Adds the clauses of a formula, in order, up to the first that is rejected.
+    ///
+    /// # Errors
+    ///
+    /// As for `add_clause`, from the first clause that is rejected; the clauses before it stay.
     pub fn add_formula(&mut self, formula: &CnfFormula) -> Result<(), CheckerError>
         ensures failed { (state self.old).failed ≡ true → IsFailed result × (self.new ≡ self.old) }
         ensures steps { (state self.old).failed ≡ false
@@ -121,9 +130,15 @@ impl<P: ProofProcessor, T: ProofTranscriptProcessor> CheckerOf<P, T> {
         Ok(())
     }
 
-    /// Adds the clauses of a text in DIMACS CNF, each as it ends, up to the first that is refused.
+    /// Adds the clauses of a text in DIMACS CNF, each as it ends, up to the first that is rejected.
     ///
-    /// The text is read as it goes. One line goes to the log where all of it was added.
+    /// The text is read as a stream. One line is logged once all of it was added.
+    ///
+    /// # Errors
+    ///
+    /// `Read` and `Malformed` for the first fault of the text; `Checker` if a clause is rejected,
+    /// as for `add_clause`, and if memory runs out, after which the checker has failed. The clauses
+    /// before the fault stay.
     pub fn add_dimacs_cnf<L: Log, R: Read + Drop>(
         &mut self,
         rt: &L,
@@ -138,8 +153,11 @@ impl<P: ProofProcessor, T: ProofTranscriptProcessor> CheckerOf<P, T> {
         self.add_dimacs_cnf_with_lie(rt, input, &mut None)
     }
 
-    /// Adds the clauses of a text, and `lie` tells what its header lies about; where not all of the
-    /// text was added that is nothing.
+    /// As `add_dimacs_cnf`. `lie` gets the mismatch of the header, if there is one.
+    ///
+    /// # Errors
+    ///
+    /// As for `add_dimacs_cnf`; `lie` is then `None`.
     pub fn add_dimacs_cnf_with_lie<L: Log, R: Read + Drop>(
         &mut self,
         rt: &L,
@@ -174,7 +192,8 @@ impl<P: ProofProcessor, T: ProofTranscriptProcessor> CheckerOf<P, T> {
         Ok(())
     }
 
-    /// The answer for a fault of a formula's text. Without memory the checker has failed.
+    /// Returns the error for a fault of a formula's text. If memory ran out, the checker has
+    /// failed.
     fn text_fault(&mut self, fault: DimacsFault) -> DimacsError
         ensures fault { IsTextFault fault (state self.old) result (state self.new) }
         ensures listeners { listeners self.new ≡ listeners self.old }
@@ -187,9 +206,15 @@ impl<P: ProofProcessor, T: ProofTranscriptProcessor> CheckerOf<P, T> {
 
     /// Checks the steps of a proof up to `End`, and then the closing conflict.
     ///
-    /// Where `End` was accepted before, nothing is read. Each call begins a new text, which is read
-    /// as it goes. Every 100000 steps one line goes to the log. Where nothing is read, no memory is
-    /// wanted.
+    /// Each call reads a new text, as a stream. If `End` was accepted before, nothing is read and
+    /// nothing allocated. Every 100000 steps one line is logged.
+    ///
+    /// # Errors
+    ///
+    /// `ProofIncomplete`, `IoError` and `ParseError` if a step can't be read; `CheckFailed` if it
+    /// is rejected, or no step number is left. The steps before it stay accepted. After
+    /// `ProofProcessorError` and `OutOfMemory` the checker has failed: every later call returns
+    /// `Failed`.
     pub fn check_proof<L: Log, R: Read + Drop>(
         &mut self,
         rt: &L,
@@ -213,8 +238,12 @@ impl<P: ProofProcessor, T: ProofTranscriptProcessor> CheckerOf<P, T> {
         answer
     }
 
-    /// Registers a processor after those that stand already. A refused one is handed back, and the
-    /// checker is as it was.
+    /// Registers a processor after those registered before.
+    ///
+    /// # Errors
+    ///
+    /// Returns the processor with `OutOfMemory`, or with `Failed` if the checker has failed. The
+    /// checker is unchanged.
     pub fn add_processor(&mut self, processor: P) -> Result<(), (P, CheckerError)>
         ensures failed { (state self.old).failed ≡ true → (result ≡ Err (processor, Failed))
             × (self.new ≡ self.old) }
@@ -235,8 +264,12 @@ impl<P: ProofProcessor, T: ProofTranscriptProcessor> CheckerOf<P, T> {
         }
     }
 
-    /// Registers a transcript after those that stand already. A refused one is handed back, and the
-    /// checker is as it was.
+    /// Registers a transcript after those registered before.
+    ///
+    /// # Errors
+    ///
+    /// Returns the transcript with `OutOfMemory`, or with `Failed` if the checker has failed. The
+    /// checker is unchanged.
     pub fn add_transcript(&mut self, transcript: T) -> Result<(), (T, CheckerError)>
         ensures failed { (state self.old).failed ≡ true → (result ≡ Err (transcript, Failed))
             × (self.new ≡ self.old) }
@@ -257,7 +290,7 @@ impl<P: ProofProcessor, T: ProofTranscriptProcessor> CheckerOf<P, T> {
         }
     }
 
-    /// Ends the checker, and hands back the processors and the transcripts, each in order of
+    /// Consumes the checker and returns the processors and the transcripts, each in order of
     /// registration.
     pub fn into_processors(self) -> (Vec<P>, Vec<T>)
         ensures processors { result.0.items ≡ (listeners self).processors }
@@ -273,14 +306,14 @@ impl<P: ProofProcessor, T: ProofTranscriptProcessor> CheckerOf<P, T> {
         (processors, transcript_processors)
     }
 
-    /// Whether unsatisfiability is recorded and the checker has not failed.
+    /// Returns whether unsatisfiability is recorded and the checker has not failed.
     pub fn unsat(&self) -> bool
         ensures { result ≡ shown_unsat (state self.now) }
     {
         self.ctx.checker_state.unsat && !self.ctx.checker_state.failed
     }
 
-    /// How many input clauses took an id; 0 of a checker that has failed.
+    /// Returns how many input clauses took an id, or 0 if the checker has failed.
     pub fn input_clauses(&self) -> u64
         ensures { result ≡ shown_inputs (state self.now) }
     {
@@ -291,10 +324,10 @@ impl<P: ProofProcessor, T: ProofTranscriptProcessor> CheckerOf<P, T> {
         }
     }
 
-    /// The length of the literal buffer, and how many literals of it are those of stored clauses;
-    /// (0, 0) of a checker that has failed.
+    /// Returns the length of the literal buffer, and how many of its literals belong to stored
+    /// clauses; (0, 0) if the checker has failed.
     ///
-    /// Only clauses that are longer than three stand in the buffer.
+    /// Only clauses of more than three literals are in the buffer.
     #[tactic(auto, unfolding(crate::specs::Shown::buffer_length, crate::specs::Shown::state))]
     pub fn literal_counts(&self) -> (usize, usize)
         ensures buffer { result.0 ≡ buffer_length self.now }
@@ -343,7 +376,7 @@ impl<P: ProofProcessor, T: ProofTranscriptProcessor> SelfChecker for CheckerOf<P
     }
 }
 
-/// Whether the checker has failed when it answers this.
+/// Returns whether this result means that the checker has failed.
 fn fails(answer: &Result<(), CheckerError>) -> bool
     ensures { result ≡ has_failed answer.now }
 {

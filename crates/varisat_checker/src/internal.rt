@@ -9,7 +9,7 @@ ghost use Rattle.varisat_checker.specs.Common.{AnswersStep, Certifies, CoversFol
 use checker_parts::error::CheckerError;
 use proof_bytes::ProofStep;
 
-/// A checker that is handed steps one by one.
+/// A checker that takes steps one by one.
 pub trait SelfChecker {
     ghost use Rattle.std.specs.Prelude.{List, Result};
     ghost use Rattle.checker_rules.specs.CheckedSteps.{NamedStep};
@@ -18,14 +18,20 @@ pub trait SelfChecker {
 
     ghost shown: { Self → State };
 
-    /// What the registered processors and transcripts took of such lists, by the answer.
+    /// Which steps of such lists the registered processors and transcripts took, by the result.
     ghost delivers: { Result (Unit {0}) CheckerError → (List NamedStep → Type 0) → Self → Self
         → Type 0 };
 
     /// Counts a step and checks it.
     ///
-    /// No memory is wanted for `End`, for an input clause where unsatisfiability is recorded, and
-    /// where no step number is left.
+    /// Allocates nothing for `End`, for an input clause if unsatisfiability is recorded, and if no
+    /// step number is left.
+    ///
+    /// # Errors
+    ///
+    /// `CheckFailed` if the step is rejected, or no step number is left. After
+    /// `ProofProcessorError` and `OutOfMemory` the checker has failed: every later call returns
+    /// `Failed`.
     fn self_check_step(&mut self, step: ProofStep) -> Result<(), CheckerError>
         ensures failed { (shown self.old).failed ≡ true → IsFailed result × (self.new ≡ self.old) }
         ensures step { (shown self.old).failed ≡ false
@@ -53,10 +59,13 @@ pub trait SelfChecker {
         ensures exhausted { (shown self.old).failed ≡ false → step_limit ≤ (shown self.old).steps
             → has_failed result ≡ false };
 
-    /// The closing conflict, as at the end of a proof: where a unit conflict is recorded an id is
-    /// taken for it. Nothing is counted.
+    /// Closes a conflict as the end of a proof does: if a unit conflict is recorded, it takes an id
+    /// for the empty clause and delivers it. Counts no step and allocates nothing.
     ///
-    /// No memory is wanted.
+    /// # Errors
+    ///
+    /// `CheckFailed` if no clause id is left. After `ProofProcessorError` the checker has failed:
+    /// every later call returns `Failed`.
     fn self_check_delayed_steps(&mut self) -> Result<(), CheckerError>
         ensures failed { (shown self.old).failed ≡ true → IsFailed result × (self.new ≡ self.old) }
         ensures closing { (shown self.old).failed ≡ false

@@ -1,7 +1,7 @@
 //! The checker: it stores clauses, checks proof steps, and records what follows from them.
 //!
-//! Promised are `internal` and the types that follow it here: a checker, its answers, and what its
-//! processors take.
+//! The public interface is `internal` and the types that follow it here: a checker, its results,
+//! and what its processors receive.
 #![tactic(auto)]
 
 pub mod internal;

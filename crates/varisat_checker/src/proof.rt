@@ -16,12 +16,16 @@ use proof_bytes::{ProofFault, StepReader};
 use std::alloc::Global;
 use std::io::Read;
 
-/// Every this many steps one line goes to the log.
+/// One line is logged every this many steps.
 const STEPS_A_LINE: u64 = 100_000;
 
 /// Checks the steps of a proof up to `End`, and then the closing conflict.
 ///
-/// Where `End` was accepted before, nothing is read. Each call begins a new text.
+/// Each call reads a new text. If `End` was accepted before, nothing is read.
+///
+/// # Errors
+///
+/// As for `CheckerOf::check_proof`.
 pub fn check_proof<P: ProofProcessor, T: ProofTranscriptProcessor, L: Log, R: Read + Drop>(
     rt: &L,
     alloc: Global,
@@ -59,7 +63,7 @@ pub fn check_proof<P: ProofProcessor, T: ProofTranscriptProcessor, L: Log, R: Re
     process_unit_conflicts(alloc, ctx)
 }
 
-/// What is answered where no step could be read.
+/// Returns the error for a step that could not be read.
 fn read_fault(step: u64, fault: ProofFault) -> CheckerError
     ensures { IsReadFault step fault result }
 {
@@ -71,6 +75,7 @@ fn read_fault(step: u64, fault: ProofFault) -> CheckerError
     }
 }
 
+/// Logs the number of a step, if a line is due.
 #[inline(always)]
 fn tell_progress<L: Log>(rt: &L, step: u64) {
     if step % STEPS_A_LINE == 0 {
@@ -78,6 +83,7 @@ fn tell_progress<L: Log>(rt: &L, step: u64) {
     }
 }
 
+/// Logs the number of a step, in thousands.
 #[inline(never)]
 fn log_step<L: Log>(rt: &L, step: u64) {
     info!(rt; "checking step {}k", step / 1000);

@@ -11,9 +11,12 @@ use std::io;
 use std::io::Write;
 use whole_writes::write_whole;
 
-/// Writes a verdict's line, also out of a writer's buffer.
+/// Writes a verdict's line and flushes the writer.
 ///
-/// After an error a beginning of the line is written: all of it, where only the flush failed.
+/// # Errors
+///
+/// That of the writer. A beginning of the line is written then: all of it, if only the flush
+/// failed.
 pub fn write_line<W: Write>(out: &mut W, verdict: Verdict) -> io::Result<()>
     ensures whole { OnOk result
         (Appends (W.contents out.old) (W.contents out.new) (shown_line verdict)) }
@@ -23,9 +26,12 @@ pub fn write_line<W: Write>(out: &mut W, verdict: Verdict) -> io::Result<()>
     write_whole(out, verdict.line())
 }
 
-/// Writes the line of a verdict on a piece, also out of a writer's buffer.
+/// Writes the line of a verdict on a piece and flushes the writer.
 ///
-/// After an error a beginning of the line is written: all of it, where only the flush failed.
+/// # Errors
+///
+/// That of the writer. A beginning of the line is written then: all of it, if only the flush
+/// failed.
 pub fn write_piece_line<W: Write>(out: &mut W, verdict: PieceVerdict) -> io::Result<()>
     ensures whole { OnOk result
         (Appends (W.contents out.old) (W.contents out.new) (piece_line verdict)) }

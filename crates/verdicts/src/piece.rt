@@ -8,17 +8,17 @@ use crate::verdict::Verdict;
 /// What a piece of a proof, whose lines were all accepted, has shown of its formula.
 #[derive(Clone, Copy, Debug, PartialEq, Eq)]
 pub enum PieceVerdict {
-    /// No assignment satisfies the formula: the piece came to the empty clause.
+    /// No assignment satisfies the formula: the piece derives the empty clause.
     Refuted,
-    /// Where some assignment satisfies the formula, some satisfies the clauses that are wanted
-    /// behind the piece, be it another one.
+    /// If some assignment satisfies the formula, some assignment, perhaps another one, satisfies
+    /// the target clauses.
     Carried,
-    /// One of these clauses is not there behind the piece.
+    /// A target clause is missing at the end of the piece.
     NotCarried,
 }
 
 impl PieceVerdict {
-    /// The bytes of its line, with the line feed.
+    /// Returns the bytes of its line, with the line feed.
     pub fn line(self) -> &'static [u8]
         ensures { result.now ≡ piece_line self }
     {
@@ -30,7 +30,7 @@ impl PieceVerdict {
     }
 }
 
-/// A piece is asked for the clauses that are wanted behind it.
+/// A piece claims its target clauses.
 impl Claims for PieceVerdict {
     ghost claimed = { shows_wanted };
 

@@ -8,14 +8,14 @@ use std::fmt;
 /// What a proof whose lines were all accepted has shown of its formula.
 #[derive(Clone, Copy, Debug, PartialEq, Eq)]
 pub enum Verdict {
-    /// No assignment satisfies the formula: the proof came to the empty clause.
+    /// No assignment satisfies the formula: the proof derives the empty clause.
     Verified,
-    /// It did not come to the empty clause. The formula may be satisfiable or not.
+    /// The proof does not derive the empty clause. The formula may be satisfiable or not.
     NotVerified,
 }
 
 impl Verdict {
-    /// The verdict by whether the formula was refuted.
+    /// Returns the verdict by whether the formula was refuted.
     pub fn of(refuted: bool) -> Verdict
         ensures { result ≡ verdict_of refuted }
     {
@@ -26,7 +26,7 @@ impl Verdict {
         }
     }
 
-    /// The bytes of its line, with the line feed.
+    /// Returns the bytes of its line, with the line feed.
     pub fn line(self) -> &'static [u8]
         ensures { result.now ≡ shown_line self }
     {

@@ -1,4 +1,4 @@
-//! Formulas that are read whole, and what their headers lie about.
+//! Formulas that are read whole, and the mismatches of their headers.
 #![tactic(auto)]
 
 mod read;

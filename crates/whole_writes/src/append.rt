@@ -8,11 +8,13 @@ ghost use Rattle.whole_writes.specs.Beginnings.{AppendsBeginning};
 use std::io;
 use std::io::{ErrorKind, Write};
 
-/// Writes bytes whole, and then what the writer holds back, so that they are where it writes to.
+/// Writes all bytes and flushes the writer.
 ///
-/// After an error a beginning of the bytes is written: all of them, where only the flush failed.
-/// The error is the writer's own. But a writer that takes no byte at a write is answered
-/// `WriteZero`, and one that is always interrupted `Other`.
+/// # Errors
+///
+/// That of the writer; `WriteZero` for a writer that takes no byte at a write, and `Other` for one
+/// that is always interrupted. A beginning of the bytes is written then: all of them, if only the
+/// flush failed.
 pub fn write_whole<W: Write>(out: &mut W, bytes: &[u8]) -> io::Result<()>
     ensures whole { OnOk result (Appends (W.contents out.old) (W.contents out.new) bytes.now) }
     ensures beginning { OnErr result
@@ -22,9 +24,11 @@ pub fn write_whole<W: Write>(out: &mut W, bytes: &[u8]) -> io::Result<()>
     out.flush()
 }
 
-/// Writes bytes whole. A writer with a buffer may hold some of them back.
+/// Writes all bytes. A buffered writer may keep some of them back.
 ///
-/// Its errors, and what is written then, are those of `write_whole`.
+/// # Errors
+///
+/// As for `write_whole`.
 pub fn append_whole<W: Write>(out: &mut W, bytes: &[u8]) -> io::Result<()>
     ensures whole { OnOk result (Appends (W.contents out.old) (W.contents out.new) bytes.now) }
     ensures beginning { OnErr result

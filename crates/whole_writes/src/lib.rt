@@ -1,4 +1,4 @@
-//! Writes of which something is known on every way out: also what a write that failed has left.
+//! Writes whose contracts cover every exit: also what a write that failed has left.
 #![tactic(auto)]
 
 mod append;

@@ -31,7 +31,12 @@ use clause_store::variables::{ensure_vars, var_bound};
 use sat_formula::Lit;
 use std::alloc::Global;
 
-/// Adds an input clause.
+/// Adds an input clause. If unsatisfiability is recorded, changes nothing.
+///
+/// # Errors
+///
+/// `Refused` if a variable of the clause was sampled away, or no id or count is left. After
+/// `Processor` and `OutOfMemory` the parts are unspecified.
 pub fn add_clause<P: ProofProcessor, T: ProofTranscriptProcessor>(
     alloc: Global,
     ctx: &mut ContextOf<P, T>,
@@ -81,7 +86,7 @@ enum Added {
     New {
         id: u64,
     },
-    /// It stood already, under another id.
+    /// It was stored already, under another id.
     Duplicate {
         id: u64,
         same_as_id: u64,
@@ -116,8 +121,7 @@ fn emit_added<P: ProofProcessor, T: ProofTranscriptProcessor>(
     }
 }
 
-/// Why a canonical input clause can't be added, as far as that is told before the stored clauses
-/// are looked at.
+/// Why a canonical input clause can't be added, before the stored clauses are looked at.
 fn early_cause(clauses: &Clauses, variables: &Variables, clause: &[Lit]) -> Option<CheckCause>
     ensures { (st : CheckerState) (h : ClauseHasher) → IsEarlyCause result
         (state_of st h clauses.now variables.now) clause.now }
@@ -163,8 +167,8 @@ fn take_clause(
     Ok(added)
 }
 
-/// Stores an input clause of known variables. A tautology and a clause that stands already take an
-/// id of their own.
+/// Stores an input clause of known variables. A tautology and a clause that is stored already take
+/// an id of their own.
 fn store_input_clause(
     alloc: Global,
     state: &mut CheckerState,
@@ -205,7 +209,7 @@ fn store_input_clause(
     }
 }
 
-/// An id of its own for a clause that stood already.
+/// Returns an id of its own for a clause that was stored already.
 #[tactic(auto, unfolding(checker_rules::specs::Store::id_limit))]
 fn repeated(clauses: &mut Clauses, same_as_id: u64, newly_irredundant: bool) -> Added
     requires { clauses.old.next_clause_id < id_limit }

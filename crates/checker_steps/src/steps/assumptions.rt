@@ -12,7 +12,12 @@ use clause_store::variables::{ensure_vars, var_bound};
 use sat_formula::Lit;
 use std::mem::swap;
 
-/// Replaces the assumptions. They may hold opposite literals.
+/// Replaces the assumptions, which may have opposite literals.
+///
+/// # Errors
+///
+/// `Refused` if a variable of them is not in mode `Sample`. After `Processor` and `OutOfMemory` the
+/// parts are unspecified.
 pub fn assumptions<P: ProofProcessor, T: ProofTranscriptProcessor>(
     ctx: &mut ContextOf<P, T>,
     lits: &[Lit],

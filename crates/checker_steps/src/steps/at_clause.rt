@@ -20,6 +20,12 @@ use std::alloc::Global;
 
 /// Checks a derived clause and stores it in its kind. An irredundant one becomes the previous
 /// clause.
+///
+/// # Errors
+///
+/// `Refused` if the clause does not follow by unit propagation from the clauses of the hashes, or
+/// the step is rejected for another cause of its rule. After `Processor` and `OutOfMemory` the
+/// parts are unspecified.
 #[inline(always)]
 pub fn at_clause<P: ProofProcessor, T: ProofTranscriptProcessor>(
     alloc: Global,
@@ -52,7 +58,7 @@ pub fn at_clause<P: ProofProcessor, T: ProofTranscriptProcessor>(
     }
 }
 
-/// Checks and adds a clause that has its canonical list, without opposite literals. It stands for
+/// Checks and adds a clause that has its canonical list, without opposite literals. It represents
 /// each list of these literals.
 #[inline(always)]
 fn at_canonical<P: ProofProcessor, T: ProofTranscriptProcessor>(

@@ -9,6 +9,10 @@ use clause_store::hash::rehash;
 use std::alloc::Global;
 
 /// Sets the width of hashes and applies the pending names and removals.
+///
+/// # Errors
+///
+/// `Refused` if the width is not 1 to 64. After `OutOfMemory` the parts are unspecified.
 pub fn change_hash_bits<P: ProofProcessor, T: ProofTranscriptProcessor>(
     alloc: Global,
     ctx: &mut ContextOf<P, T>,

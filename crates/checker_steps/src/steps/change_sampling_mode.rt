@@ -1,4 +1,4 @@
-//! Whether models tell a variable's value as a sample or as a witness.
+//! Whether models give a variable's value as a sample or as a witness.
 ghost use Rattle.std.specs.Prelude.{◌≡◌, ◌<◌, if◌then◌else◌, length};
 ghost use Rattle.checker_rules.specs.State.{sample as sampled, witness};
 ghost use Rattle.checker_rules.specs.Step as rules;
@@ -16,6 +16,11 @@ use checker_parts::step::CheckedUserVar;
 use sat_formula::Var;
 
 /// Changes the mode of a variable. Without a user name it may become `Witness`, but not `Sample`.
+///
+/// # Errors
+///
+/// `Refused` if the change is not allowed. After `Processor` and `OutOfMemory` the parts are
+/// unspecified.
 pub fn change_sampling_mode<P: ProofProcessor, T: ProofTranscriptProcessor>(
     ctx: &mut ContextOf<P, T>,
     var: Var,
@@ -45,7 +50,7 @@ pub fn change_sampling_mode<P: ProofProcessor, T: ProofTranscriptProcessor>(
     }
 }
 
-/// Changes the mode of a known variable, and answers its user name where it has one and the mode
+/// Changes the mode of a known variable, and returns its user name where it has one and the mode
 /// was another.
 fn change_mode(variables: &mut Variables, var: Var, sample: bool) -> Result<Option<Var>, CheckCause>
     requires { index_of var < length variables.old }

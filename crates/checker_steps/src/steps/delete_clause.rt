@@ -27,8 +27,13 @@ use proof_bytes::DeleteClauseProof;
 use sat_formula::Lit;
 use std::alloc::Global;
 
-/// Deletes one copy of a clause. A justification that passes makes the previous clause forgotten,
-/// also where the step is then refused.
+/// Deletes one copy of a clause. A justification that passes makes the checker forget the previous
+/// clause, even if the step is then rejected.
+///
+/// # Errors
+///
+/// `Refused` if the justification fails or no copy of the kind is stored. After `Processor` and
+/// `OutOfMemory` the parts are unspecified.
 #[inline(always)]
 pub fn delete_clause<P: ProofProcessor, T: ProofTranscriptProcessor>(
     alloc: Global,
@@ -60,7 +65,7 @@ pub fn delete_clause<P: ProofProcessor, T: ProofTranscriptProcessor>(
     }
 }
 
-/// Deletes a copy of a clause that has its canonical list, without opposite literals. It stands for
+/// Deletes a copy of a clause that has its canonical list, without opposite literals. It represents
 /// each list of these literals.
 #[inline(always)]
 fn delete_canonical<P: ProofProcessor, T: ProofTranscriptProcessor>(
@@ -106,7 +111,8 @@ fn delete_canonical<P: ProofProcessor, T: ProofTranscriptProcessor>(
     }
 }
 
-/// The id of the clause that implies the canonical one that is to go. A redundant one needs none.
+/// Returns the id of the clause that implies the canonical one that is to go. A redundant one needs
+/// none.
 fn justify(
     state: &CheckerState,
     clauses: &Clauses,
@@ -132,7 +138,7 @@ fn justify(
     }
 }
 
-/// The id of the previous clause, where it is a proper subset of the canonical one.
+/// Returns the id of the previous clause, if it is a proper subset of the canonical one.
 fn subsuming_id(state: &CheckerState, clause: &[Lit]) -> Option<u64>
     requires previous { is_previous_canonical (previous_of state.now) ≡ true }
     requires clause { IsTrue (is_canonical clause.now) }
@@ -170,8 +176,8 @@ fn no_copy(redundant: bool) -> CheckCause
     }
 }
 
-/// Delivers what the deletion of a copy did to the clause: whether it is gone, or redundant from
-/// now on.
+/// Delivers what the deletion of a copy did to the clause: whether it was deleted, or became
+/// redundant.
 #[inline(always)]
 fn emit_deletion<P: ProofProcessor, T: ProofTranscriptProcessor>(
     processing: &mut ProcessingOf<P, T>,

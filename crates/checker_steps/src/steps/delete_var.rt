@@ -24,10 +24,15 @@ use clause_store::clauses::store::global_id;
 use clause_store::state::CheckerState;
 use sat_formula::{Lit, Var};
 
-/// Deletes an unnamed variable that no clause of two or more literals holds: its unit goes, and it
-/// is as a new variable is.
+/// Deletes an unnamed variable that no clause of two or more literals has: its unit is deleted, and
+/// the variable is as a new one.
 ///
 /// A conflict on its unit is closed first. A previous clause with the variable is forgotten.
+///
+/// # Errors
+///
+/// `Refused` if the variable has a user name or a clause, or no id is left for the conflict. After
+/// `Processor` and `OutOfMemory` the parts are unspecified.
 pub fn delete_var<P: ProofProcessor, T: ProofTranscriptProcessor>(
     ctx: &mut ContextOf<P, T>,
     var: Var,
@@ -58,7 +63,7 @@ pub fn delete_var<P: ProofProcessor, T: ProofTranscriptProcessor>(
     Ok(())
 }
 
-/// Whether a stored clause of two or more literals holds the variable.
+/// Returns whether a stored clause of two or more literals has the variable.
 fn is_held(counts: &LitCounts, var: Var) -> bool
     ensures { (n : ℕ) (es : List Stored) → AreCounts counts.now n es
         → result ≡ list_any (λ e. holds_var (index_of var) e.lits) es }
@@ -94,7 +99,7 @@ fn close_conflict_on<P: ProofProcessor, T: ProofTranscriptProcessor>(
     emit_at_clause(processing, variables, id, false, &[], &[unit, negation])
 }
 
-/// The recorded conflict, where it is with the variable's unit.
+/// Returns the recorded conflict, if it is with the variable's unit.
 fn conflict_on(clauses: &Clauses, var: Var) -> Option<(u64, u64)>
     ensures { result ≡ conflict_on (unit_of (stored_units clauses.now.unit_clauses) (index_of var))
         clauses.now.unit_conflict }
@@ -108,7 +113,7 @@ fn conflict_on(clauses: &Clauses, var: Var) -> Option<(u64, u64)>
     }
 }
 
-/// Delivers the unit of the variable, where it has one, as a clause that goes.
+/// Delivers the unit of the variable, if it has one, as a clause that is deleted.
 fn emit_unit<P: ProofProcessor, T: ProofTranscriptProcessor>(
     processing: &mut ProcessingOf<P, T>,
     clauses: &Clauses,
@@ -144,7 +149,7 @@ fn free_var(state: &mut CheckerState, clauses: &mut Clauses, variables: &mut Var
     forget_previous_with(state, var);
 }
 
-/// Forgets a previous clause that holds the variable.
+/// Forgets a previous clause with the variable.
 fn forget_previous_with(state: &mut CheckerState, var: Var)
     ensures { (h : ClauseHasher) (cs : Clauses) (known : List Known)
         → state_of state.new h cs known
@@ -156,7 +161,7 @@ fn forget_previous_with(state: &mut CheckerState, var: Var)
     }
 }
 
-/// Whether a literal of the variable is in the clause.
+/// Returns whether a literal of the variable is in the clause.
 fn holds_var(lits: &[Lit], var: Var) -> bool
     ensures { result ≡ holds_var (index_of var) lits.now }
 {

@@ -1,4 +1,4 @@
-//! Derived clauses: checked, stored and handed on.
+//! Derived clauses: checked, stored and delivered.
 ghost use Rattle.std.specs.Prelude.{◌≡◌, ℕ, List, IfOk, false, true};
 ghost use Rattle.sat_rules.specs.Clauses.{is_canonical, is_tautology};
 ghost use Rattle.checker_rules.specs.Check.{ready};
@@ -20,8 +20,8 @@ use proof_bytes::ClauseHash;
 use sat_formula::Lit;
 use std::alloc::Global;
 
-/// Checks a canonical clause without opposite literals, stores it in its kind and hands it on.
-/// Answers its id.
+/// Checks a canonical clause without opposite literals, stores it in its kind and delivers it.
+/// Returns its id.
 ///
 /// The previous clause stays. The check is traced only where a processor is registered, since
 /// transcripts see no propagations.
@@ -84,7 +84,7 @@ pub(crate) fn derive<P: ProofProcessor, T: ProofTranscriptProcessor>(
     }
 }
 
-/// Why the step is not taken where its clause is not stored.
+/// Returns why a step is not accepted whose clause could not be stored.
 pub fn store_fault(fault: StoreFault) -> StepFault
     ensures { result ≡ store_fault fault }
 {

@@ -23,10 +23,13 @@ use sat_formula::Lit;
 use std::alloc::{AllocError, Global};
 use std::mem::replace;
 
-/// Checks that assumptions fail together: the clause of their negations follows by propagation. It
-/// is not stored.
+/// Checks that assumptions fail together: the clause of their negations follows by unit
+/// propagation. It is not stored. A core with opposite literals fails whatever is stored.
 ///
-/// A core with opposite literals fails whatever is stored.
+/// # Errors
+///
+/// `Refused` if a literal of the core is no assumption or has no user variable, or the clause does
+/// not follow. After `Processor` and `OutOfMemory` the parts are unspecified.
 pub fn failed_assumptions<P: ProofProcessor, T: ProofTranscriptProcessor>(
     alloc: Global,
     ctx: &mut ContextOf<P, T>,
@@ -58,7 +61,7 @@ pub fn failed_assumptions<P: ProofProcessor, T: ProofTranscriptProcessor>(
     answer
 }
 
-/// Why a core is refused before its check: its literals are to be assumptions with user variables.
+/// Why a core is rejected before its check: its literals are to be assumptions with user variables.
 fn judge(state: &CheckerState, variables: &Variables, core: &[Lit]) -> Result<(), CheckCause>
     requires core { IsTrue (is_canonical core.now) }
     requires assumed { IsTrue (is_canonical state.now.assumptions.items) }
@@ -74,14 +77,14 @@ fn judge(state: &CheckerState, variables: &Variables, core: &[Lit]) -> Result<()
     Ok(())
 }
 
-/// Whether some literal's variable has no user variable.
+/// Returns whether some literal's variable has no user variable.
 fn some_hidden(variables: &Variables, core: &[Lit]) -> bool
     ensures { result ≡ list_any (λ l. is_none (user_of variables.now (var_of l))) core.now }
 {
     core.iter().any(|lit| is_hidden(variables, *lit))
 }
 
-/// Whether the literal's variable has no user variable.
+/// Returns whether the literal's variable has no user variable.
 fn is_hidden(variables: &Variables, lit: Lit) -> bool
     ensures { result ≡ is_none (user_of variables.now (var_of lit)) }
 {
@@ -90,7 +93,7 @@ fn is_hidden(variables: &Variables, lit: Lit) -> bool
         .is_none()
 }
 
-/// Checks that a core without opposite literals fails, and hands it on.
+/// Checks that a core without opposite literals fails, and delivers it.
 fn check_core<P: ProofProcessor, T: ProofTranscriptProcessor>(
     alloc: Global,
     ctx: &mut ContextOf<P, T>,
@@ -128,7 +131,7 @@ fn check_core<P: ProofProcessor, T: ProofTranscriptProcessor>(
     emit_failed_assumptions(&mut ctx.processing, &ctx.variables, core, propagations)
 }
 
-/// The negations of the literals, in their order.
+/// Returns the negations of the literals, in their order.
 fn negations(alloc: Global, lits: &[Lit]) -> Result<Vec<Lit>, AllocError>
     ensures { IfOk result (λ negated. negated.items ≡ map negate lits.now) }
 {

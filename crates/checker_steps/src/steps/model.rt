@@ -24,8 +24,13 @@ use clause_store::clauses::{Clause, Clauses};
 use clause_store::state::CheckerState;
 use sat_formula::Lit;
 
-/// Checks a model: its literals go together and with the units, and it has every assumption and a
-/// literal of each stored clause.
+/// Checks a model: its literals are consistent with each other and with the units, and it has every
+/// assumption and a literal of each stored clause.
+///
+/// # Errors
+///
+/// `Refused` if the model fails one of these, or unsatisfiability is recorded. After `Processor`
+/// and `OutOfMemory` the parts are unspecified.
 pub fn model<P: ProofProcessor, T: ProofTranscriptProcessor>(
     ctx: &mut ContextOf<P, T>,
     assignment: &[Lit],
@@ -157,7 +162,7 @@ fn unmark_literals(marks: &mut [bool], lits: &[Lit])
     }
 }
 
-/// Takes back the mark of a literal. Without a place it has none.
+/// Removes the mark of a literal. Without a slot it has none.
 fn unmark_literal(marks: &mut [bool], lit: Lit)
     ensures { (l : ℕ) → is_marked marks.new l ≡ (not (eqb l lit) && is_marked marks.old l) }
 {
@@ -173,21 +178,21 @@ fn is_marked(marks: &[bool], lit: Lit) -> bool
     marks.get(lit.code()).copied().unwrap_or(false)
 }
 
-/// Whether every literal is marked.
+/// Returns whether every literal is marked.
 fn are_marked(marks: &[bool], lits: &[Lit]) -> bool
     ensures { result ≡ list_all (is_marked marks.now) lits.now }
 {
     lits.iter().all(|lit| is_marked(marks, *lit))
 }
 
-/// Whether some literal is marked.
+/// Returns whether some literal is marked.
 fn meets(marks: &[bool], lits: &[Lit]) -> bool
     ensures { result ≡ list_any (is_marked marks.now) lits.now }
 {
     lits.iter().any(|lit| is_marked(marks, *lit))
 }
 
-/// Whether some literal of the clause is marked.
+/// Returns whether some literal of the clause is marked.
 fn meets_clause(marks: &[bool], clause: &Clause, buffer: &[Lit]) -> bool
     requires { IsWithin clause.now.lits buffer.now }
     ensures { result ≡ has_marked (is_marked marks.now) (stored_of buffer.now clause.now) }
@@ -195,7 +200,7 @@ fn meets_clause(marks: &[bool], clause: &Clause, buffer: &[Lit]) -> bool
     meets(marks, clause.lits.slice(buffer))
 }
 
-/// Whether some literal of each clause of a crowd is marked.
+/// Returns whether some literal of each clause of a bucket with several is marked.
 fn meets_crowd(marks: &[bool], places: &[Option<Clause>], buffer: &[Lit]) -> bool
     requires { All (λ c. IsWithin c.lits buffer.now) (standing places.now) }
     ensures { result ≡ list_all (λ c. has_marked (is_marked marks.now) (stored_of buffer.now c))
@@ -212,7 +217,7 @@ fn meets_crowd(marks: &[bool], places: &[Option<Clause>], buffer: &[Lit]) -> boo
     true
 }
 
-/// Whether some literal of each clause of a bucket is marked.
+/// Returns whether some literal of each clause of a bucket is marked.
 fn meets_bucket(marks: &[bool], bucket: &Bucket, buffer: &[Lit]) -> bool
     requires { All (λ c. IsWithin c.lits buffer.now) (clauses_of bucket.now) }
     ensures { result ≡ list_all (λ c. has_marked (is_marked marks.now) (stored_of buffer.now c))
@@ -224,7 +229,7 @@ fn meets_bucket(marks: &[bool], bucket: &Bucket, buffer: &[Lit]) -> bool
     }
 }
 
-/// Whether some literal of each stored clause of two or more is marked.
+/// Returns whether some literal of each stored clause of two or more is marked.
 fn meets_clauses(marks: &[bool], clauses: &Clauses) -> bool
     requires { (h : ClauseHasher) × IsIndexed h clauses.now (stored_list clauses.now) }
     ensures { result ≡ list_all (has_marked (is_marked marks.now)) (stored_list clauses.now) }

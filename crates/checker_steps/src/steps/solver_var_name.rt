@@ -8,7 +8,12 @@ use checker_parts::error::StepFault;
 use checker_parts::processor::{ProofProcessor, ProofTranscriptProcessor};
 use sat_formula::Var;
 
-/// Notes a name of a variable, or that its name goes. Hashes show it from the next renaming on.
+/// Records a name of a variable, or that it loses its name. Hashes show it from the next renaming
+/// on.
+///
+/// # Errors
+///
+/// `OutOfMemory`, and no other fault; the parts are unspecified then.
 pub fn solver_var_name<P: ProofProcessor, T: ProofTranscriptProcessor>(
     ctx: &mut ContextOf<P, T>,
     global: Var,

@@ -10,9 +10,13 @@ use proof_bytes::ClauseHash;
 use sat_formula::Lit;
 use std::alloc::Global;
 
-/// Checks the units in turn, each with the one clause that its hash names, and stores them.
+/// Checks the units in turn, each with the one clause that its hash names, and stores them. The
+/// previous clause stays.
 ///
-/// The previous clause stays. A unit that is refused leaves those before it stored and handed on.
+/// # Errors
+///
+/// `Refused` for the first unit that does not follow; those before it stay stored and delivered.
+/// After `Processor` and `OutOfMemory` the parts are unspecified.
 pub fn unit_clauses<P: ProofProcessor, T: ProofTranscriptProcessor>(
     alloc: Global,
     ctx: &mut ContextOf<P, T>,

@@ -9,7 +9,12 @@ use checker_parts::error::StepFault;
 use checker_parts::processor::{ProofProcessor, ProofTranscriptProcessor};
 use sat_formula::Var;
 
-/// Gives a variable a user name, or takes its name away and hides it.
+/// Gives a variable a user name, or removes its name and hides it.
+///
+/// # Errors
+///
+/// `Refused` if the change is not allowed. After `Processor` and `OutOfMemory` the parts are
+/// unspecified.
 pub fn user_var_name<P: ProofProcessor, T: ProofTranscriptProcessor>(
     ctx: &mut ContextOf<P, T>,
     global: Var,

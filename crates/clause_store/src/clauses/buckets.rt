@@ -20,7 +20,7 @@ use std::collections::hash_map::Entry;
 /// The clauses of one hash, by rising ids.
 #[derive(Drop)]
 pub enum Bucket {
-    /// Almost every bucket holds one clause.
+    /// Almost every bucket has one clause.
     One(Clause),
     Many(Box<Crowd>),
 }
@@ -32,7 +32,7 @@ pub type Buckets = HashMap<ClauseHash, Bucket>;
 #[derive(Clone, Copy, Debug)]
 pub struct CountExhausted;
 
-/// Whether the clause has these literals.
+/// Returns whether the clause has these literals.
 pub fn has_lits(clause: &Clause, buffer: &[Lit], lits: &[Lit]) -> bool
     requires { IsWithin clause.now.lits buffer.now }
     ensures { result ≡ is_of buffer.now lits.now clause.now }
@@ -40,7 +40,7 @@ pub fn has_lits(clause: &Clause, buffer: &[Lit], lits: &[Lit]) -> bool
     clause.lits.slice(buffer) == lits
 }
 
-/// How many copies of the kind are counted.
+/// Returns how many copies of the kind are counted.
 pub fn copies_of(clause: &Clause, redundant: bool) -> u32
     ensures { result ≡ copies_of redundant clause.now }
 {
@@ -51,8 +51,8 @@ pub fn copies_of(clause: &Clause, redundant: bool) -> u32
     }
 }
 
-/// How many copies of the kind there are of the clause that is alone in its bucket, if it has these
-/// literals.
+/// Returns how many copies of the kind there are of the clause that is alone in its bucket, if it
+/// has these literals.
 fn copies_of_one(clause: &Clause, buffer: &[Lit], lits: &[Lit], redundant: bool) -> u32
     requires { IsWithin clause.now.lits buffer.now }
     ensures { result ≡ count_in redundant lits.now (stored_of buffer.now clause.now ∷ []) }
@@ -64,7 +64,7 @@ fn copies_of_one(clause: &Clause, buffer: &[Lit], lits: &[Lit], redundant: bool)
     }
 }
 
-/// How many copies of the kind there are of the clause with these literals.
+/// Returns how many copies of the kind there are of the clause with these literals.
 pub(crate) fn copies_in(
     buckets: &Buckets,
     buffer: &[Lit],
@@ -102,7 +102,11 @@ fn push_in(
     }
 }
 
-/// Puts a clause with these literals at the end of its bucket.
+/// Appends a clause with these literals to its bucket.
+///
+/// # Errors
+///
+/// `AllocError` if memory runs out; the buckets are unspecified then.
 pub fn push_clause(
     alloc: Global,
     buckets: &mut Buckets,
@@ -124,7 +128,7 @@ pub fn push_clause(
     }
 }
 
-/// The clause with this many copies of the kind.
+/// Returns the clause with this many copies of the kind.
 pub fn with_copies(clause: &Clause, redundant: bool, copies: u32) -> Clause
     ensures { result ≡ (if redundant then record clause.now { redundant = copies }
         else record clause.now { irredundant = copies }) }
@@ -142,7 +146,7 @@ pub fn with_copies(clause: &Clause, redundant: bool, copies: u32) -> Clause
     }
 }
 
-/// The clause with one copy more.
+/// Returns the clause with one copy more.
 #[tactic(auto, unfolding(checker_rules::specs::Store::count_limit))]
 pub fn raise(clause: &Clause, redundant: bool) -> Option<Clause>
     ensures { SomeIff result (copies_of redundant clause.now < count_limit)
@@ -211,8 +215,12 @@ fn raise_in(
     }
 }
 
-/// Counts one copy more of the clause with these literals. It answers where the clause is stored
-/// its id, and how many irredundant copies there were.
+/// Counts one more copy of the clause with these literals. Returns its id and how many irredundant
+/// copies there were, or `None` if the clause is not stored.
+///
+/// # Errors
+///
+/// `CountExhausted` if no further copy can be counted; the clauses are unchanged.
 pub fn raise_clause(
     buckets: &mut Buckets,
     buffer: &[Lit],

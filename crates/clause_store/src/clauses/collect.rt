@@ -15,8 +15,14 @@ use crate::hash::ClauseHasher;
 use sat_formula::lit::Lit;
 use std::alloc::{AllocError, Global};
 
-/// Where more than half of the literal buffer is garbage, all clauses move to a buffer without any.
+/// If more than half of the literal buffer is garbage, all clauses move to a buffer without any.
 // Each clause stays in its bucket, and `hasher` is read by the clauses of the contracts alone.
+/// Moves all clauses to a buffer without garbage, if more than half of the literal buffer is
+/// garbage.
+///
+/// # Errors
+///
+/// `AllocError` if memory runs out; the parts are unspecified then.
 pub fn collect_garbage(
     alloc: Global,
     hasher: &ClauseHasher,
@@ -51,7 +57,7 @@ fn collect(alloc: Global, hasher: &ClauseHasher, clauses: &mut Clauses) -> Resul
     Ok(())
 }
 
-/// The literals that the clauses have in the buffer, one bucket's after the other's.
+/// Returns the literals that the clauses have in the buffer, one bucket's after the other's.
 fn copy_lits(alloc: Global, clauses: &Clauses) -> Result<Vec<Lit>, AllocError>
     requires { (h : ClauseHasher) × IsIndexed h clauses.now (stored_list clauses.now) }
     ensures copied { IfOk result (λ new. new.items
@@ -84,7 +90,7 @@ fn copy_bucket(bucket: &Bucket, buffer: &[Lit], new: &mut Vec<Lit>) -> Result<()
     }
 }
 
-/// Copies the literals of a crowd's clauses that are in the buffer to the end of the new one.
+/// Appends the literals of a bucket's clauses that are in the buffer to the new one.
 fn copy_places(
     places: &[Option<Clause>],
     buffer: &[Lit],
@@ -129,8 +135,8 @@ fn move_buckets(buckets: &mut Buckets)
     );
 }
 
-/// The literals that a bucket's clauses have in the buffer stand in another from `at` on. It
-/// answers where they end there.
+/// Makes the literals that a bucket's clauses have in the buffer those of another from `at` on.
+/// Returns where they end there.
 fn move_bucket(bucket: &mut Bucket, at: usize) -> usize
     requires { at + all_used (clauses_of bucket.old) < 2 ^ 64 }
     ensures moved { clauses_of bucket.new ≡ all_moved_to at (clauses_of bucket.old) }
@@ -142,7 +148,8 @@ fn move_bucket(bucket: &mut Bucket, at: usize) -> usize
     }
 }
 
-/// Moves the clauses of a crowd, which stay in their places, to follow each other from here on.
+/// Makes the literals of a bucket's clauses follow each other from here on. The clauses stay in
+/// their slots.
 fn move_places(places: &mut [Option<Clause>], first: usize) -> usize
     requires { first + all_used (standing places.old) < 2 ^ 64 }
     ensures places { length places.new ≡ length places.old }

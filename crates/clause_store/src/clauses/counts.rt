@@ -34,14 +34,14 @@ impl Model for LitCounts {
 }
 
 impl LitCounts {
-    /// No variable is known.
+    /// Returns counts without variables. Allocates no memory.
     pub fn new(alloc: Global) -> LitCounts
         ensures { result ≡ [] }
     {
         LitCounts::of(Vec::new(alloc))
     }
 
-    /// The counts that are given, by the literals' codes.
+    /// Returns the counts that are given, by the literals' codes.
     pub fn of(counts: Vec<u32>) -> LitCounts
         ensures { result ≡ counts.items }
     {
@@ -50,7 +50,7 @@ impl LitCounts {
         }
     }
 
-    /// The literal's data. No clause holds it where its variable is unknown.
+    /// Returns the literal's data. No clause has it if its variable is unknown.
     pub fn get(&self, lit: Lit) -> LitData
         ensures { result.clause_count ≡ slice_index self.now lit }
     {
@@ -62,7 +62,11 @@ impl LitCounts {
         LitData { clause_count }
     }
 
-    /// Makes the literals of the first `vars` variables known. No clause holds a new one.
+    /// Makes the literals of the first `vars` variables known. No clause has a new one.
+    ///
+    /// # Errors
+    ///
+    /// `AllocError` if memory runs out.
     pub fn know(&mut self, vars: usize) -> Result<(), AllocError>
         ensures { OnOk result (self.new ≡ self.old ++ replicate (2 * vars - length self.old) 0) }
     {
@@ -74,9 +78,11 @@ impl LitCounts {
         }
     }
 
-    /// One clause more holds these literals.
+    /// Counts one more clause with these literals.
     ///
-    /// After an error the counts are of no use.
+    /// # Errors
+    ///
+    /// `AllocError` if memory runs out; the counts are unspecified then.
     pub fn raise(&mut self, lits: &[Lit]) -> Result<(), AllocError>
         requires canonical { is_canonical lits.now ≡ true }
         requires known { 2 * var_bound lits.now ≤ length self.old }
@@ -89,7 +95,7 @@ impl LitCounts {
         Ok(())
     }
 
-    /// One clause more holds the literal. A count that is full makes all take eight bytes.
+    /// Counts one more clause with the literal. A count that is full makes all take eight bytes.
     fn raise_one(&mut self, lit: Lit) -> Result<(), AllocError>
         requires { lit < length self.old }
         ensures { OnOk result (self.new
@@ -108,7 +114,7 @@ impl LitCounts {
         }
     }
 
-    /// One clause less holds these literals.
+    /// Counts one clause less with these literals.
     pub fn lower(&mut self, lits: &[Lit])
         requires canonical { is_canonical lits.now ≡ true }
         requires held { (l : ℕ) → has l lits.now ≡ true → 0 < slice_index self.old l }
@@ -120,7 +126,7 @@ impl LitCounts {
         }
     }
 
-    /// One clause less holds the literal.
+    /// Counts one clause less with the literal.
     fn lower_one(&mut self, lit: Lit)
         requires { 0 < slice_index self.old lit }
         ensures { self.new ≡ slice_set self.old lit (slice_index self.old lit - 1) }
@@ -133,7 +139,7 @@ impl LitCounts {
     }
 }
 
-/// One clause more holds the literal, unless its count is full. It answers whether it was not.
+/// Counts one more clause with the literal, unless its count is full. Returns whether it was not.
 fn add_narrow(counts: &mut Vec<u32>, lit: Lit) -> bool
     requires { lit < length counts.old.items }
     ensures added { result ≡ true → counts.new.items
@@ -161,10 +167,10 @@ fn copy_wide(counts: &Vec<u32>) -> Result<Vec<u64>, AllocError>
     Ok(wide)
 }
 
-/// One clause more holds the literal.
+/// Counts one more clause with the literal.
 ///
-/// No count passes 64 bits: each clause that is counted has an id of its own, and ids end before.
-/// What is known here does not say so, and the error stands in place of a sum that is never made.
+/// No count exceeds 64 bits, since each counted clause has its own id. The contract here does not
+/// say so, and the error stands for a sum that never occurs.
 fn add_wide(counts: &mut Vec<u64>, lit: Lit) -> Result<(), AllocError>
     requires { lit < length counts.old.items }
     ensures { OnOk result (counts.new.items

@@ -12,37 +12,37 @@ use sat_formula::lit::Lit;
 use std::alloc::{AllocError, Global};
 use std::collections::BTreeMap;
 
-/// In a crowd of more places it is noted where each clause stands.
+/// A bucket with more slots has an index of its clauses.
 const FEW_PLACES: usize = 16;
 
-/// Several clauses of one hash, by rising ids.
+/// A bucket with several clauses, which have one hash, by rising ids.
 ///
-/// A clause that goes leaves its place free, so that none after it has to move. At most half of the
-/// places are free: once more would be, the others close up.
+/// A removed clause leaves its slot free, so that none after it is moved. At most half of the slots
+/// are free: if one more became free, the others are compacted.
 #[derive(Drop)]
 pub struct Crowd {
     alloc: Global,
     pub places: Vec<Option<Clause>>,
-    /// How many places are free.
+    /// How many slots are free.
     free: usize,
-    /// Where a clause is looked for first, by its literals.
+    /// The slot in which a clause is looked for first, by its literals.
     ///
-    /// Nothing rests on it: what is found there is compared, and what is not is looked for in all
-    /// places.
+    /// No result relies on it: what is found there is compared, and what is not is looked for in
+    /// all slots.
     noted: BTreeMap<Vec<Lit>, usize>,
     ghost counted: { free + length (standing places.items) ≡ length places.items },
     ghost half: { 2 * free ≤ length places.items },
     ghost few_notes: { btree_map_len noted ≤ length places.items },
 }
 
-/// A copy of the literals.
+/// Returns a copy of the literals.
 fn copy_of(alloc: Global, lits: &[Lit]) -> Result<Vec<Lit>, AllocError> {
     let mut copy = Vec::with_capacity(alloc, lits.len())?;
     copy.extend_from_slice(lits)?;
     Ok(copy)
 }
 
-/// Notes where the clause with these literals stands.
+/// Indexes the clause with these literals.
 fn note(
     alloc: Global,
     noted: &mut BTreeMap<Vec<Lit>, usize>,
@@ -55,7 +55,7 @@ fn note(
     Ok(())
 }
 
-/// Notes where each clause stands.
+/// Indexes all clauses.
 fn note_all(
     alloc: Global,
     noted: &mut BTreeMap<Vec<Lit>, usize>,
@@ -85,7 +85,7 @@ impl Crowd {
     ghost use Rattle.clause_store.specs.Store.{is_whole};
     ghost use Rattle.clause_store.specs.View.{stored_of};
 
-    /// No clause.
+    /// Returns a bucket without clauses. Allocates no memory.
     pub fn new(alloc: Global) -> Crowd
         ensures { result.places.items ≡ [] }
     {
@@ -97,7 +97,11 @@ impl Crowd {
         }
     }
 
-    /// Two clauses, in this order.
+    /// Returns a bucket with two clauses, in this order.
+    ///
+    /// # Errors
+    ///
+    /// `AllocError` if memory runs out.
     pub fn of_two(alloc: Global, first: Clause, second: Clause) -> Result<Crowd, AllocError>
         ensures { IfOk result (λ crowd. standing crowd.places.items ≡ first ∷ second ∷ []) }
     {
@@ -107,7 +111,11 @@ impl Crowd {
         Ok(crowd)
     }
 
-    /// Puts a clause with these literals after all others.
+    /// Appends a clause with these literals.
+    ///
+    /// # Errors
+    ///
+    /// `AllocError` if memory runs out; the bucket is unspecified then.
     pub fn push(&mut self, clause: Clause, lits: &[Lit]) -> Result<(), AllocError>
         ensures { OnOk result (standing self.new.places.items
             ≡ standing self.old.places.items ++ clause ∷ []) }
@@ -121,7 +129,7 @@ impl Crowd {
         Ok(())
     }
 
-    /// The place of the clause with these literals, and the clause.
+    /// Returns the slot of the clause with these literals, and the clause.
     fn find(&mut self, buffer: &[Lit], lits: &[Lit]) -> Option<(usize, Clause)>
         requires { All (λ c. IsWithin c.lits buffer.now) (standing self.old.places.items) }
         ensures placed { IfSome result (λ p. IsPlaced buffer.now lits.now self.old.places.items
@@ -131,7 +139,7 @@ impl Crowd {
         ensures same { self.new.places ≡ self.old.places }
     {
         if self.places.len() > FEW_PLACES && self.noted.is_empty() {
-            // Where memory is refused, some are looked for in all places.
+            // If an allocation fails, some are looked for in all slots.
             let _refused = note_all(self.alloc, &mut self.noted, &self.places, buffer);
         }
         match self.noted_place(buffer, lits) {
@@ -140,8 +148,8 @@ impl Crowd {
         }
     }
 
-    /// The place where the clause with these literals was noted, and that clause, where it does
-    /// stand there.
+    /// Returns the slot that the index has for the clause with these literals, and that clause, if
+    /// it is there.
     fn noted_place(&self, buffer: &[Lit], lits: &[Lit]) -> Option<(usize, Clause)>
         requires { All (λ c. IsWithin c.lits buffer.now) (standing self.now.places.items) }
         ensures { IfSome result (λ p. IsPlaced buffer.now lits.now self.now.places.items p.0 p.1) }
@@ -150,7 +158,7 @@ impl Crowd {
         clause_at(&self.places, at, buffer, lits)
     }
 
-    /// How many copies of the kind there are of the clause with these literals.
+    /// Returns how many copies of the kind there are of the clause with these literals.
     pub fn copies(&self, buffer: &[Lit], lits: &[Lit], redundant: bool) -> u32
         requires within { All (λ c. IsWithin c.lits buffer.now) (standing self.now.places.items) }
         requires apart { are_apart (map (stored_of buffer.now) (standing self.now.places.items))
@@ -164,7 +172,12 @@ impl Crowd {
         }
     }
 
-    /// Counts one copy more of the clause with these literals.
+    /// Counts one more copy of the clause with these literals. Returns its id and how many
+    /// irredundant copies there were, or `None` if the clause is not stored.
+    ///
+    /// # Errors
+    ///
+    /// `CountExhausted` if no further copy can be counted; the clauses are unchanged.
     pub fn raise(
         &mut self,
         buffer: &[Lit],
@@ -199,7 +212,12 @@ impl Crowd {
         }
     }
 
-    /// Takes one copy of the clause with these literals away. The clause goes with its last copy.
+    /// Removes one copy of the clause with these literals, and the clause with its last copy.
+    /// Returns what is left of the clause.
+    ///
+    /// # Errors
+    ///
+    /// `Missing` if the clause, or a copy of the kind, is not stored; the clauses are unchanged.
     pub fn lower(&mut self, buffer: &[Lit], lits: &[Lit], redundant: bool) -> Result<Left, Missing>
         requires within { All (λ c. IsWithin c.lits buffer.now) (standing self.old.places.items) }
         requires apart { are_apart (map (stored_of buffer.now) (standing self.old.places.items))
@@ -229,8 +247,8 @@ impl Crowd {
         }
     }
 
-    /// The clause with these literals leaves its place. The others close up once more than half of
-    /// the places are free; what was noted is wrong then.
+    /// Removes the clause with these literals from its slot. The others are compacted once more
+    /// than half of the slots are free; the index is wrong then.
     fn leave(&mut self, at: usize, lits: &[Lit])
         requires within { at < length self.old.places.items }
         requires taken { is_some (slice_index_or self.old.places.items at None) ≡ true }

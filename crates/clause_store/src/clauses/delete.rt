@@ -31,8 +31,13 @@ pub enum DeleteFault {
     NoCopy,
 }
 
-/// Deletes one copy of the kind of a canonical clause, and answers the clause's id. After
-/// `OutOfMemory` the parts are of no use.
+/// Deletes one copy of the kind of a canonical clause. Returns the clause's id and what the
+/// deletion did to the clause.
+///
+/// # Errors
+///
+/// `UnitOrEmpty`, `Unknown` or `NoCopy` if there is no such copy; nothing is changed. After
+/// `OutOfMemory` the parts are unspecified.
 pub fn delete_clause(
     alloc: Global,
     hasher: &ClauseHasher,
@@ -60,7 +65,7 @@ pub fn delete_clause(
     }
 }
 
-/// What the deletion of a copy did to a clause of which so much is left.
+/// Returns what the deletion of a copy did to a clause of which so much is left.
 fn deleted_as(left: &Left, redundant: bool) -> DeleteClauseResult
     ensures { result ≡ deleted_as redundant left.now.irredundant left.now.redundant }
 {
@@ -73,8 +78,8 @@ fn deleted_as(left: &Left, redundant: bool) -> DeleteClauseResult
     }
 }
 
-/// Takes one copy of a clause away. The literals of a clause that goes are garbage, and it holds
-/// them no longer.
+/// Removes one copy of a clause. The literals of a clause that is removed are garbage, and are no
+/// longer counted.
 fn take_copy(
     hasher: &ClauseHasher,
     clauses: &mut Clauses,

@@ -7,7 +7,7 @@ use sat_formula::lit::Lit;
 use std::alloc::AllocError;
 use std::marker::Model;
 
-/// The place where literals begin in the buffer, as two numbers of four bytes.
+/// The position at which literals begin in the buffer, as two numbers of four bytes.
 ///
 /// A number of eight bytes would make each stored clause eight bytes longer.
 #[derive(Clone, Copy)]
@@ -63,7 +63,11 @@ pub enum ClauseLits {
 }
 
 impl ClauseLits {
-    /// Keeps two literals or more, in the buffer if there are more than three.
+    /// Returns two or more literals, stored in the buffer if there are more than three.
+    ///
+    /// # Errors
+    ///
+    /// `AllocError` if memory runs out; the buffer is unchanged.
     pub fn new(lits: &[Lit], buffer: &mut Vec<Lit>) -> Result<ClauseLits, AllocError>
         requires { 1 < length lits.now }
         ensures ok { IfOk result (λ c. lits_of c buffer.new.items ≡ lits.now) }
@@ -86,7 +90,7 @@ impl ClauseLits {
         }
     }
 
-    /// The literals, given the buffer that they were kept in.
+    /// Returns the literals, given the buffer that they were kept in.
     pub fn slice<'c>(&'c self, buffer: &'c [Lit]) -> &'c [Lit]
         requires { IsWithin self.now buffer.now }
         ensures { result.now ≡ lits_of self.now buffer.now }
@@ -98,7 +102,11 @@ impl ClauseLits {
         }
     }
 
-    /// Puts the literals that stand in the buffer after those of another.
+    /// Appends the literals that are in the buffer to another buffer.
+    ///
+    /// # Errors
+    ///
+    /// `AllocError` if memory runs out.
     pub fn copy_to(&self, buffer: &[Lit], other: &mut Vec<Lit>) -> Result<(), AllocError>
         requires { IsWithin self.now buffer.now }
         ensures copied { OnOk result (other.new.items ≡ other.old.items ++
@@ -115,7 +123,8 @@ impl ClauseLits {
         }
     }
 
-    /// The literals in the buffer stand in another from `at` on. It answers where they end there.
+    /// Makes the literals in the buffer those of another from `at` on. Returns where they end
+    /// there.
     pub fn move_to(&mut self, at: usize) -> usize
         requires { at + buffer_used self.old < 2 ^ 64 }
         ensures moved { self.new ≡ moved_to at self.old }
@@ -130,7 +139,7 @@ impl ClauseLits {
         }
     }
 
-    /// How many literals of such a clause stand in the buffer.
+    /// Returns how many literals of such a clause are in the buffer.
     pub fn buffer_size(lits: &[Lit]) -> usize
         ensures { result ≡ live_of lits.now }
     {
@@ -138,7 +147,7 @@ impl ClauseLits {
     }
 }
 
-/// Four literals of the buffer from a place on, and those after them.
+/// Four literals of the buffer from a position on, and those after them.
 #[inline(always)]
 fn in_range(buffer: &[Lit], start: Start, after_four: u32) -> &[Lit]
     requires { start + (after_four + 4) ≤ length buffer.now }
@@ -148,11 +157,10 @@ fn in_range(buffer: &[Lit], start: Start, after_four: u32) -> &[Lit]
     &buffer[start..start + (after_four as usize + 4)]
 }
 
-/// How many literals come after the first four.
+/// Returns how many literals follow the first four.
 ///
-/// No stored clause has more than 32 bits can count: its literals are distinct, and there are not
-/// this many. What is known here does not say so, and the error stands in place of a clause that is
-/// never stored.
+/// No stored clause has more than 32 bits can count, since its literals are distinct. The contract
+/// here does not say so, and the error stands for a clause that is never stored.
 fn after_four(lits: &[Lit]) -> Result<u32, AllocError>
     requires { 4 ≤ length lits.now }
     ensures { IfOk result (λ more. more + 4 ≡ length lits.now) }

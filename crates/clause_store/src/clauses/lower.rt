@@ -16,7 +16,7 @@ use proof_bytes::hash::ClauseHash;
 use sat_formula::lit::Lit;
 use std::collections::hash_map::Entry;
 
-/// Why no copy was taken away.
+/// Why no copy was removed.
 #[derive(Clone, Copy, Debug, PartialEq, Eq)]
 pub enum Missing {
     /// The clause is not stored.
@@ -25,7 +25,8 @@ pub enum Missing {
     Copy,
 }
 
-/// What is left of a clause: its id and its counts, which are 0 where it is gone.
+/// What is left of a clause: its id, and its irredundant and redundant copies, which are 0 if it
+/// was removed.
 #[derive(Clone, Copy, Debug, PartialEq, Eq)]
 pub struct Left {
     pub id: u64,
@@ -36,7 +37,7 @@ pub struct Left {
 impl Left {
     ghost use Rattle.clause_store.specs.Lowered.{is_gone};
 
-    /// Whether no copy is left.
+    /// Returns whether no copy is left.
     pub fn is_gone(&self) -> bool
         ensures { result ≡ is_gone self.now }
     {
@@ -44,7 +45,7 @@ impl Left {
     }
 }
 
-/// The clause with one copy less.
+/// Returns the clause with one copy less.
 pub fn lower(clause: &Clause, redundant: bool) -> Option<Clause>
     ensures { SomeIff result (0 < copies_of redundant clause.now) (lowered redundant clause.now) }
 {
@@ -52,7 +53,7 @@ pub fn lower(clause: &Clause, redundant: bool) -> Option<Clause>
     Some(with_copies(clause, redundant, copies))
 }
 
-/// The id and the counts of a clause.
+/// Returns the id and the counts of a clause.
 pub fn left_of(clause: &Clause) -> Left
     ensures { result ≡ left_of clause.now }
 {
@@ -90,8 +91,8 @@ fn lower_one(
     }
 }
 
-/// Takes one copy of the clause with these literals away. It answers what is left of the clause,
-/// and whether no clause is left in the bucket, which is of no use then.
+/// Takes one copy of the clause with these literals away. Returns what is left of the clause, and
+/// whether no clause is left in the bucket, which is unspecified then.
 fn lower_in(
     bucket: &mut Bucket,
     buffer: &[Lit],
@@ -121,8 +122,12 @@ fn lower_in(
     }
 }
 
-/// Takes one copy of the clause with these literals away. The clause goes with its last copy, and
-/// an empty bucket too. It answers what is left of the clause.
+/// Removes one copy of the clause with these literals, the clause with its last copy, and an empty
+/// bucket. Returns what is left of the clause.
+///
+/// # Errors
+///
+/// `Missing` if the clause, or a copy of the kind, is not stored; the clauses are unchanged.
 pub fn lower_clause(
     buckets: &mut Buckets,
     buffer: &[Lit],
@@ -154,7 +159,7 @@ pub fn lower_clause(
             entry.into_key();
             Err(Missing::Clause)
         }
-        // Memory is wanted only for a hash without clauses.
+        // Memory is needed only for a hash without clauses.
         Err(_) => Err(Missing::Clause),
     }
 }

@@ -1,4 +1,4 @@
-//! Clauses at their places, where some are free.
+//! Clauses in their slots, some of which are free.
 ghost use Rattle.std.specs.Prelude.{◌≡◌, All, IfNone, IfSome, false, is_some, length, map, nat_lt};
 ghost use Rattle.std.specs.List.{list_any};
 ghost use Rattle.checker_rules.specs.Store.{is_stored};
@@ -11,22 +11,22 @@ use crate::clauses::Clause;
 use crate::clauses::buckets::has_lits;
 use sat_formula::lit::Lit;
 
-/// Whether a clause stands in one of the places.
+/// Returns whether a clause is in one of the slots.
 pub fn some_stands(places: &[Option<Clause>]) -> bool
     ensures { result ≡ nat_lt 0 (length (standing places.now)) }
 {
     is_some_taken(places)
 }
 
-/// Whether one of the places is not free.
+/// Returns whether one of the slots is not free.
 fn is_some_taken(places: &[Option<Clause>]) -> bool
     ensures { result ≡ list_any is_some places.now }
 {
     places.iter().any(|place| place.is_some())
 }
 
-/// The place of the clause with these literals, and the clause. It looks in one place after the
-/// other.
+/// Returns the slot of the clause with these literals, and the clause. It looks in one slot after
+/// the other.
 pub fn search(places: &[Option<Clause>], buffer: &[Lit], lits: &[Lit]) -> Option<(usize, Clause)>
     requires { All (λ c. IsWithin c.lits buffer.now) (standing places.now) }
     ensures placed { IfSome result (λ p. IsPlaced buffer.now lits.now places.now p.0 p.1) }
@@ -44,7 +44,7 @@ pub fn search(places: &[Option<Clause>], buffer: &[Lit], lits: &[Lit]) -> Option
     None
 }
 
-/// The clause of a place, where it has these literals, and the place.
+/// Returns the clause of a slot, if it has these literals, and the slot.
 pub fn clause_at(
     places: &[Option<Clause>],
     at: usize,

@@ -16,7 +16,7 @@ use sat_formula::lit::Lit;
 use std::alloc::{AllocError, Global};
 use std::collections::HashMap;
 
-/// Puts the clauses of the places that are not free after those of a list.
+/// Appends the clauses of the slots that are not free to a list.
 fn append_standing(all: &mut Vec<Clause>, places: &[Option<Clause>]) -> Result<(), AllocError>
     ensures { OnOk result (all.new.items ≡ all.old.items ++ standing places.now) }
 {
@@ -29,7 +29,11 @@ fn append_standing(all: &mut Vec<Clause>, places: &[Option<Clause>]) -> Result<(
     Ok(())
 }
 
-/// Puts the clauses of a bucket after those of a list.
+/// Appends the clauses of a bucket to a list.
+///
+/// # Errors
+///
+/// `AllocError` if memory runs out.
 pub fn append_bucket(all: &mut Vec<Clause>, bucket: &Bucket) -> Result<(), AllocError>
     ensures { OnOk result (all.new.items ≡ all.old.items ++ clauses_of bucket.now) }
 {
@@ -42,7 +46,11 @@ pub fn append_bucket(all: &mut Vec<Clause>, bucket: &Bucket) -> Result<(), Alloc
     }
 }
 
-/// All clauses of two or more literals, by rising ids.
+/// Returns all clauses of two or more literals, by rising ids.
+///
+/// # Errors
+///
+/// `AllocError` if memory runs out.
 pub fn gather(alloc: Global, clauses: &Clauses) -> Result<Vec<Clause>, AllocError>
     ensures within { (h : ClauseHasher) (es : List Stored) → IsIndexed h clauses.now es
         → IfOk result (λ all. All (λ c. IsWithin c.lits clauses.now.literal_buffer.items) all.items) }
@@ -57,7 +65,11 @@ pub fn gather(alloc: Global, clauses: &Clauses) -> Result<Vec<Clause>, AllocErro
     Ok(all)
 }
 
-/// No clauses, with room for this many buckets.
+/// Returns a table without clauses, with capacity for this many buckets.
+///
+/// # Errors
+///
+/// `AllocError` if memory runs out.
 pub fn room_for(alloc: Global, count: usize) -> Result<Buckets, AllocError>
     ensures { IfOk result (λ m. (k : ℕ) → clauses_at m k ≡ []) }
 {
@@ -65,7 +77,11 @@ pub fn room_for(alloc: Global, count: usize) -> Result<Buckets, AllocError>
     Ok(buckets)
 }
 
-/// Puts each clause of a list into the bucket of its hash, after those before it.
+/// Returns a table with each clause of a list in the bucket of its hash, after those before it.
+///
+/// # Errors
+///
+/// `AllocError` if memory runs out.
 pub fn rebuild(
     alloc: Global,
     hasher: &ClauseHasher,
@@ -89,7 +105,11 @@ pub fn rebuild(
     Ok(buckets)
 }
 
-/// Puts every clause into the bucket of its hash. Before, they stood in those of other hashes.
+/// Moves every clause to the bucket of its hash. Before, they were in those of other hashes.
+///
+/// # Errors
+///
+/// `AllocError` if memory runs out; the clauses are unspecified then.
 pub fn rebuild_buckets(
     alloc: Global,
     hasher: &ClauseHasher,
@@ -104,7 +124,7 @@ pub fn rebuild_buckets(
         ≡ record clauses.old { buckets = clauses.new.buckets }) }
 {
     let all = gather(alloc, clauses)?;
-    // The old table goes before the new one is made, so that memory never holds both.
+    // The old table is dropped before the new one is made, so that both are never in memory.
     clauses.buckets = HashMap::new(alloc);
     clauses.buckets = rebuild(alloc, hasher, &all, &clauses.literal_buffer)?;
     Ok(())

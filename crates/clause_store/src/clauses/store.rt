@@ -40,7 +40,7 @@ impl From<AllocError> for StoreFault {
     }
 }
 
-/// How many copies of the kind are stored of a clause of two or more literals.
+/// Returns how many copies of the kind are stored of a clause of two or more literals.
 pub fn copies(hasher: &ClauseHasher, clauses: &Clauses, lits: &[Lit], redundant: bool) -> u32
     requires { IsStore hasher.now clauses.now }
     ensures { result ≡ count_of redundant lits.now (stored_list clauses.now) }
@@ -55,8 +55,13 @@ pub fn copies(hasher: &ClauseHasher, clauses: &Clauses, lits: &[Lit], redundant:
     )
 }
 
-/// Stores a canonical clause without opposite literals and of known variables, and answers its id.
-/// After `OutOfMemory` the parts are of no use.
+/// Stores a canonical clause of known variables without opposite literals. Returns its id, and
+/// whether it was new.
+///
+/// # Errors
+///
+/// `IdsExhausted` or `CountExhausted` if the clause can't be numbered or counted. After
+/// `OutOfMemory` the parts are unspecified.
 pub fn store_clause(
     alloc: Global,
     state: &mut CheckerState,
@@ -97,7 +102,11 @@ fn store_empty(
     Ok((id, StoreClauseResult::New))
 }
 
-/// Stores a unit of a known variable.
+/// Stores a unit of a known variable. Returns its id, and whether it was new.
+///
+/// # Errors
+///
+/// `IdsExhausted` if no id is left.
 pub fn store_unit_clause(
     state: &mut CheckerState,
     clauses: &mut Clauses,
@@ -173,7 +182,7 @@ fn put_conflict(
     Ok((id, StoreClauseResult::New))
 }
 
-/// The id of a stored unit.
+/// Returns the id of a stored unit.
 pub fn global_id(unit: &UnitClause) -> u64
     ensures { result ≡ id_of_unit unit.now.id }
 {
@@ -209,7 +218,7 @@ fn store_long(
     }
 }
 
-/// What one copy more does to a stored clause that had this many irredundant copies.
+/// Returns what one copy more does to a stored clause that had this many irredundant copies.
 fn raised_as(irredundant: u32, redundant: bool) -> StoreClauseResult
     ensures { result ≡ raised_as redundant irredundant }
 {
@@ -244,7 +253,7 @@ fn push_new(
     Ok((id, StoreClauseResult::New))
 }
 
-/// A clause with one copy.
+/// Returns a clause with one copy.
 fn first_copy(id: u64, redundant: bool, lits: ClauseLits) -> Clause
     ensures { result ≡ first_copy_of redundant id lits }
 {

@@ -1,4 +1,4 @@
-//! The value of each known variable, where it has one.
+//! The value of each known variable, if it has one.
 ghost use Rattle.std.specs.Prelude.{◌≡◌, ◌-◌, ◌<◌, ◌++◌, ◌∷◌, [], length, replicate, None, OnOk, OnErr, slice_set};
 ghost use Rattle.std.specs.Option.{option_map};
 ghost use Rattle.clause_store.specs.Units as spec;
@@ -8,7 +8,7 @@ use sat_formula::lit::Lit;
 use std::alloc::{AllocError, Global};
 use std::marker::Model;
 
-/// Where a value comes from.
+/// The origin of a value.
 #[derive(Clone, Copy, Debug)]
 pub enum UnitId {
     /// A stored unit, with its id.
@@ -19,7 +19,7 @@ pub enum UnitId {
     InClause,
 }
 
-/// The value of a variable, and where it comes from.
+/// The value of a variable, and its origin.
 #[derive(Clone, Copy, Debug)]
 pub struct UnitClause {
     pub id: UnitId,
@@ -28,7 +28,7 @@ pub struct UnitClause {
 
 /// Whether a variable has a value, in one byte.
 ///
-/// The first two stand in the order of `bool`, so that one comparison tells whether a value makes a
+/// The first two are in the order of `bool`, so that one comparison shows whether a value makes a
 /// literal false.
 #[derive(Clone, Copy, PartialEq, Eq)]
 pub(crate) enum Value {
@@ -54,8 +54,8 @@ impl Value {
         }
     }
 
-    /// The value of a literal whose variable has this one. A false literal, as most are that a
-    /// check looks at, is told first.
+    /// Returns the value of a literal whose variable has this one. A false literal, which most are
+    /// that a check looks at, is decided first.
     #[inline(always)]
     fn of_lit(self, lit: Lit) -> Option<bool>
         ensures { result ≡ spec.signed (spec.known self) lit }
@@ -70,7 +70,7 @@ impl Value {
     }
 }
 
-/// The kind of a value's id, in one byte. Its number stands elsewhere.
+/// The kind of a value's id, in one byte. Its number is stored elsewhere.
 #[derive(Clone, Copy)]
 enum Source {
     Stored,
@@ -123,7 +123,7 @@ impl Model for Overwritten {
 
 /// The values of the known variables, by index, in ten bytes a variable.
 ///
-/// A check reads little but values, so these stand by themselves.
+/// A check reads little but values, so these are stored apart.
 #[derive(Drop)]
 pub struct Units {
     values: Vec<Value>,
@@ -150,7 +150,7 @@ impl Units {
     ghost use Rattle.clause_store.specs.Trace as traces;
     ghost use Rattle.clause_store.specs.Trace.{AreStored};
 
-    /// No variable has a unit.
+    /// Returns a table without variables. Allocates no memory.
     pub fn new(alloc: Global) -> Units
         ensures { result ≡ [] }
     {
@@ -161,14 +161,14 @@ impl Units {
         }
     }
 
-    /// This many variables are known.
+    /// Returns how many variables are known.
     pub fn len(&self) -> usize
         ensures { result ≡ length self.now }
     {
         self.values.len()
     }
 
-    /// The value of the variable of this index. None for an unknown variable too.
+    /// Returns the value of the variable of this index. None for an unknown variable too.
     #[inline]
     pub fn value(&self, index: usize) -> Option<bool>
         ensures { result ≡ option_map (λ u. u.value) (unit_at self.now index) }
@@ -180,7 +180,8 @@ impl Units {
             .known()
     }
 
-    /// The value of the variable of this index, with its id. None for an unknown variable too.
+    /// Returns the value of the variable of this index, with its id. None for an unknown variable
+    /// too.
     #[inline]
     pub fn get(&self, index: usize) -> Option<UnitClause>
         ensures { result ≡ unit_at self.now index }
@@ -190,7 +191,7 @@ impl Units {
         Some(UnitClause { id, value })
     }
 
-    /// The id of the stored unit that gives the variable of this index its value.
+    /// Returns the id of the stored unit that gives the variable of this index its value.
     pub fn stored_id(&self, index: usize) -> Option<u64>
         ensures { result ≡ spec.stored_id (unit_at self.now index) }
     {
@@ -200,7 +201,7 @@ impl Units {
         }
     }
 
-    /// The value of a literal.
+    /// Returns the value of a literal.
     #[inline]
     pub fn lit_value(&self, lit: Lit) -> Option<bool>
         ensures { result ≡ spec.lit_value self.now lit }
@@ -211,7 +212,7 @@ impl Units {
         }
     }
 
-    /// The value of a literal whose variable is known.
+    /// Returns the value of a literal whose variable is known.
     #[inline]
     pub fn known_lit_value(&self, lit: Lit) -> Option<bool>
         requires { var_of lit < length self.now }
@@ -220,7 +221,7 @@ impl Units {
         self.values[lit.index()].of_lit(lit)
     }
 
-    /// The values alone, for `is_false_by`.
+    /// Returns the values alone, for `is_false_by`.
     #[inline(always)]
     pub(crate) fn values(&self) -> &[Value]
         ensures { spec.AreValues result.now self.now }
@@ -228,8 +229,7 @@ impl Units {
         self.values.as_slice()
     }
 
-    /// Whether the value of its known variable makes the literal false, where the values are at
-    /// hand.
+    /// Returns whether the value of its known variable makes the literal false, given the values.
     #[inline(always)]
     pub(crate) fn is_false_by(&self, values: &[Value], lit: Lit) -> bool
         requires known { var_of lit < length self.now }
@@ -245,14 +245,14 @@ impl Units {
         matches!(self.lit_value(lit), Some(true))
     }
 
-    /// Whether its variable's value makes the literal false.
+    /// Returns whether its variable's value makes the literal false.
     pub fn is_false(&self, lit: Lit) -> bool
         ensures { result ≡ true_lits self.now (negate lit) }
     {
         self.lit_value(lit) == Some(false)
     }
 
-    /// The id of the stored unit that makes the first true literal true.
+    /// Returns the id of the stored unit that makes the first true literal true.
     pub fn true_unit_id(&self, lits: &[Lit]) -> Option<u64>
         requires { AreStored self.now }
         ensures { result ≡ traces.true_unit_id (stored_units self.now) lits.now }
@@ -282,7 +282,7 @@ impl Units {
         }
     }
 
-    /// Gives the variable of this index a value. Its id is whichever stands there.
+    /// Gives the variable of this index a value. Its id is the one that is there.
     #[inline]
     pub fn give(&mut self, index: usize, value: bool)
         requires { index < length self.old }
@@ -300,7 +300,7 @@ impl Units {
         self.values[index] = Value::Free;
     }
 
-    /// The literal with the value of its variable, to be put back.
+    /// Returns the literal with the value of its variable, to be put back.
     #[inline]
     pub fn kept(&self, lit: Lit) -> Overwritten
         requires { var_of lit < length self.now }
@@ -339,6 +339,10 @@ impl Units {
     }
 
     /// Makes the first `count` variables known, new ones without a value.
+    ///
+    /// # Errors
+    ///
+    /// `AllocError` if memory runs out.
     pub fn know(&mut self, count: usize) -> Result<(), AllocError>
         ensures { OnOk result (self.new ≡ self.old ++ replicate (count - length self.old) None) }
     {
@@ -349,7 +353,11 @@ impl Units {
         Ok(())
     }
 
-    /// One more variable is known, without a value.
+    /// Makes one more variable known, without a value.
+    ///
+    /// # Errors
+    ///
+    /// `AllocError` if memory runs out; nothing is changed.
     pub fn push_free(&mut self) -> Result<(), AllocError>
         ensures ok { OnOk result (self.new ≡ self.old ++ None ∷ []) }
         ensures err { OnErr result (self.new ≡ self.old) }

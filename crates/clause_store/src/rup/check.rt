@@ -1,4 +1,4 @@
-//! The check of a clause in the state that the parts stand for.
+//! The check of a clause in the state that the parts represent.
 ghost use Rattle.std.specs.Prelude.{◌≡◌, ◌≤◌, false, IsTrue, OnOk, length};
 ghost use Rattle.sat_rules.specs.Clauses.{is_tautology};
 ghost use Rattle.checker_rules.specs.Canonical.{var_bound};
@@ -22,12 +22,16 @@ use proof_bytes::ClauseHash;
 use sat_formula::Lit;
 use std::alloc::{AllocError, Global};
 
-/// Whether a canonical clause without opposite literals follows by propagation from the clauses
-/// that the hashes name.
+/// Returns whether a canonical clause without opposite literals follows by unit propagation from
+/// the clauses that the hashes name.
 ///
-/// Where a pending solver name waits, all pending names and removals are applied first. The
-/// variables of the clause become known. The units are those of before, passed or refused. A traced
-/// check that passes leaves the ids of what it used in `trace_ids`.
+/// If a solver name is pending, all pending names and removals are applied first. The variables of
+/// the clause become known. The units are unchanged, whether the clause passes or is rejected. A
+/// traced check that passes leaves the ids of what it used in `trace_ids`.
+///
+/// # Errors
+///
+/// `AllocError` if memory runs out; the parts are unspecified then.
 #[inline(always)]
 pub fn check_clause_with_hashes(
     alloc: Global,

@@ -21,7 +21,7 @@ pub struct IdleBuckets {
 }
 
 impl IdleBuckets {
-    /// None is known to be idle.
+    /// Returns records of no idle bucket. Allocates no memory.
     pub fn new(alloc: Global) -> IdleBuckets
         ensures { (h : ℕ) → idle_at result h ≡ None }
     {
@@ -42,7 +42,7 @@ impl IdleBuckets {
         }
     }
 
-    /// Whether the bucket was found idle at a trail of this length.
+    /// Returns whether the bucket was found idle at a trail of this length.
     pub fn has(&self, hash: ClauseHash, given: usize) -> bool
         ensures { IsTrue result ↔ (idle_at self.now hash ≡ Some given) }
     {
@@ -52,7 +52,11 @@ impl IdleBuckets {
         }
     }
 
-    /// The bucket was found idle at a trail of this length.
+    /// Records that the bucket was found idle at a trail of this length.
+    ///
+    /// # Errors
+    ///
+    /// `AllocFailed` if memory runs out; the records are unchanged.
     pub fn add(&mut self, hash: ClauseHash, given: usize) -> Result<(), AllocFailed<(u64, usize)>>
         ensures ok { OnOk result ((h : ℕ) → idle_at self.new h
             ≡ (if hash == h then Some given else idle_at self.old h)) }

@@ -15,7 +15,7 @@ pub struct Propagation {
 }
 
 impl Propagation {
-    /// Nothing is overwritten or listed.
+    /// Returns an empty trail and trace. Allocates no memory.
     pub fn new(alloc: Global) -> Propagation
         ensures trail { result.trail.items ≡ [] }
         ensures trace { result.trace.items ≡ [] }

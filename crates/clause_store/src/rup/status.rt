@@ -38,7 +38,7 @@ pub fn clause_status(units: &Units, lits: &[Lit]) -> ClauseStatus
     ClauseStatus::Falsified
 }
 
-/// What follows from a clause of a literal that is not false, and others.
+/// Returns what follows from a clause of a literal that is not false, and others.
 #[inline(always)]
 fn status_with(units: &Units, lit: Lit, others: &[Lit]) -> ClauseStatus
     requires known { var_of lit < length units.now }
@@ -52,7 +52,7 @@ fn status_with(units: &Units, lit: Lit, others: &[Lit]) -> ClauseStatus
     ClauseStatus::Unit(lit)
 }
 
-/// Whether all literals are false.
+/// Returns whether all literals are false.
 #[inline(always)]
 fn are_false(units: &Units, lits: &[Lit]) -> bool
     requires { AreKnown units.now lits.now }

@@ -16,6 +16,10 @@ use std::alloc::AllocError;
 /// Lists each stored unit that makes a literal false, up to a literal that is true.
 ///
 /// A unit that is listed gets another id, so that it is listed once.
+///
+/// # Errors
+///
+/// `AllocError` if memory runs out; the stored units are unchanged.
 pub fn list_units(
     units: &mut Units,
     trail: &mut Trail,
@@ -54,7 +58,7 @@ fn list_unit(
     requires known { var_of lit < length units.old }
     requires is_false { values.lit_value units.old lit ≡ Some false }
     requires trail { IsTrailFor units.old trail.old.items }
-    // Whatever literals come after it.
+    // Whatever literals follow it.
     ensures listed { OnOk result ((rest : List ℕ)
         → looked trace.old.items units.old (lit ∷ rest) ≡ looked trace.new.items units.new rest) }
     ensures kept { KeepsStored units.old units.new }

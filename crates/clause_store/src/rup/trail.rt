@@ -16,7 +16,11 @@ use std::alloc::AllocError;
 /// The overwritten values of the literals' variables, the oldest first.
 pub type Trail = Vec<Overwritten>;
 
-/// Gives the literal's variable a value.
+/// Assigns a value to the literal's variable, and records the old one on the trail.
+///
+/// # Errors
+///
+/// `AllocError` if memory runs out; the units are unchanged.
 pub fn overwrite(
     units: &mut Units,
     trail: &mut Trail,
@@ -35,7 +39,11 @@ pub fn overwrite(
     Ok(())
 }
 
-/// Takes every literal as false.
+/// Assigns false to every literal.
+///
+/// # Errors
+///
+/// `AllocError` if memory runs out; the stored units are unchanged.
 pub fn assume_false(units: &mut Units, trail: &mut Trail, lits: &[Lit]) -> Result<(), AllocError>
     requires known { AreKnown units.old lits.now }
     requires stored { AreStored units.old }

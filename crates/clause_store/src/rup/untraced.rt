@@ -34,7 +34,7 @@ pub struct FreePropagation {
 }
 
 impl FreePropagation {
-    /// No variable was given a value.
+    /// Returns an empty trail. Allocates no memory.
     pub fn new(alloc: Global) -> FreePropagation
         ensures { result.trail.items ≡ [] }
     {
@@ -61,7 +61,7 @@ fn give(units: &mut Units, trail: &mut FreeTrail, lit: Lit, value: bool) -> Resu
     Ok(())
 }
 
-/// Takes the literals as false, up to one that is true already. Answers whether there is one.
+/// Takes the literals as false, up to one that is true already. Returns whether there is one.
 fn assume_free(units: &mut Units, trail: &mut FreeTrail, lits: &[Lit]) -> Result<bool, AllocError>
     requires known { AreKnown units.old lits.now }
     requires no_tautology { is_tautology lits.now ≡ false }
@@ -102,7 +102,7 @@ fn free_all(units: &mut Units, lits: &[Lit])
     }
 }
 
-/// Makes the literal true that alone is free. Answers whether the clause is falsified.
+/// Makes the literal true that alone is free. Returns whether the clause is falsified.
 #[inline(always)]
 fn propagate_clause(
     units: &mut Units,
@@ -130,7 +130,7 @@ fn propagate_clause(
     }
 }
 
-/// Visits the clauses of the places in turn, and answers whether one is falsified.
+/// Visits the clauses of the slots in turn, and returns whether one is falsified.
 fn propagate_places(
     units: &mut Units,
     trail: &mut FreeTrail,
@@ -159,7 +159,7 @@ fn propagate_places(
     Ok(false)
 }
 
-/// What ends a walk in a bucket where a clause is falsified, or none is.
+/// Returns what ends a walk in a bucket where a clause is falsified, or none is.
 #[inline]
 pub fn end_of(falsified: bool) -> Option<Answer>
     ensures { result ≡ (if falsified then Some Answer.Passed else None) }
@@ -171,8 +171,8 @@ pub fn end_of(falsified: bool) -> Option<Answer>
     }
 }
 
-/// Visits the crowd of a hash, unless it is long and known to be idle. Answers what ends the walk
-/// there.
+/// Visits the clauses of a hash that has several, unless they are many and known to be idle.
+/// Returns what ends the walk there.
 // The clauses of the contract alone read `buckets`.
 fn propagate_crowd(
     units: &mut Units,
@@ -208,13 +208,13 @@ fn propagate_crowd(
         return Ok(Some(Answer::Passed));
     }
     if is_long && run.trail.len() == given {
-        // Where memory is refused it is walked again.
+        // Where an allocation fails it is walked again.
         let _refused = run.idle.add(hash, given);
     }
     Ok(None)
 }
 
-/// Visits the bucket of a hash. Answers what ends the walk there.
+/// Visits the bucket of a hash. Returns what ends the walk there.
 #[inline]
 fn propagate_named(
     units: &mut Units,
@@ -273,7 +273,8 @@ fn propagate_buckets(
     Ok(Answer::Failed)
 }
 
-/// The walk with the literals taken as false, whose values stay. A true literal ends it before.
+/// Returns the walk with the literals taken as false, whose values stay. A true literal ends it
+/// before.
 fn propagate_negated(
     units: &mut Units,
     run: &mut FreePropagation,
@@ -298,7 +299,11 @@ fn propagate_negated(
     propagate_buckets(units, run, buckets, buffer, hashes)
 }
 
-/// The check of a clause, not traced.
+/// Returns the result of the check of a clause, without a trace.
+///
+/// # Errors
+///
+/// `AllocError` if memory runs out.
 pub fn check_untraced(
     units: &mut Units,
     run: &mut FreePropagation,

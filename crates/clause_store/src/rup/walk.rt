@@ -30,7 +30,12 @@ use proof_bytes::hash::ClauseHash;
 use sat_formula::lit::Lit;
 use std::alloc::AllocError;
 
-/// Makes the literal true that alone is free. Answers whether the clause is falsified.
+/// Assigns true to the only unassigned literal of a clause whose other literals are false. Returns
+/// whether the clause is falsified.
+///
+/// # Errors
+///
+/// `AllocError` if memory runs out.
 pub fn visit_clause(
     units: &mut Units,
     run: &mut Propagation,
@@ -69,7 +74,7 @@ pub fn visit_clause(
     }
 }
 
-/// Visits the clauses of the places in turn, and answers whether one is falsified.
+/// Visits the clauses of the slots in turn, and returns whether one is falsified.
 fn visit_places(
     units: &mut Units,
     run: &mut Propagation,
@@ -100,8 +105,8 @@ fn visit_places(
     Ok(false)
 }
 
-/// Visits the crowd of a hash, unless it is long and known to be idle. Answers what ends the walk
-/// there.
+/// Visits the clauses of a hash that has several, unless they are many and known to be idle.
+/// Returns what ends the walk there.
 // The clauses of the contract alone read `buckets`.
 fn visit_crowd(
     units: &mut Units,
@@ -138,13 +143,13 @@ fn visit_crowd(
         return Ok(Some(Answer::Passed));
     }
     if is_long && run.trail.len() == given {
-        // Where memory is refused it is walked again.
+        // Where an allocation fails it is walked again.
         let _refused = run.idle.add(hash, given);
     }
     Ok(None)
 }
 
-/// Visits the bucket of a hash. Answers what ends the walk there.
+/// Visits the bucket of a hash. Returns what ends the walk there.
 fn visit_named(
     units: &mut Units,
     run: &mut Propagation,
@@ -202,7 +207,12 @@ fn walk_buckets(
     Ok(Answer::Failed)
 }
 
-/// The walk with the literals taken as false, whose values stay.
+/// Propagates over the named buckets with the literals assigned false, whose values stay, and
+/// returns the result.
+///
+/// # Errors
+///
+/// `AllocError` if memory runs out.
 pub fn walk_negated(
     units: &mut Units,
     run: &mut Propagation,
