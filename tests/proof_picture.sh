@@ -37,6 +37,17 @@ c proof: 3 steps, 1 of them RAT; 2 deletions
 c hints: 9, 3.0 a step, at most 4
 c clauses: mean length 1.3, median 1, longest 3' six.cnf six.lrat six.svg
 whole six.svg 100
+cp six.svg plain.svg
+for packer in 'gzip gz' 'xz xz' 'lzma lzma' 'bzip2 bz2' 'zstd zst'; do
+  read -r tool end <<< "$packer"
+  command -v "$tool" > /dev/null || continue
+  "$tool" -qc six.cnf > "six.cnf.$end"
+  "$tool" -qc six.lrat > "six.lrat.$end"
+  "$picture" "six.cnf.$end" "six.lrat.$end" packed.svg > said || wrong=1
+  cmp packed.svg plain.svg || wrong=1
+  head -c -5 "six.lrat.$end" > "cut.lrat.$end"
+  says 1 "cut.lrat.$end: $tool can't unpack it" six.cnf "cut.lrat.$end" packed.svg
+done
 
 # A proof of a solver: the numbers by another count.
 data=$top/tests/data/grid5
