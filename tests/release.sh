@@ -213,20 +213,20 @@ bring() {
 # those that unpack it, and then the first one, with the folder of programs on the path
 bare=$work/bare
 enter=(unshare --mount --map-root-user bash -c 'mount --rbind /dev "$1/dev" && shift && exec "$@"' - "$bare" chroot "$bare"
-  /bin/busybox env -i "PATH=/bin:/home/$name-static/bin")
-mkdir -p "$bare"/{bin,dev,home,tmp}
+  /bin/busybox env -i "PATH=/bin:/unpacked/$name-static/bin")
+mkdir -p "$bare"/{bin,dev,unpacked,tmp}
 if [[ -f $work/one/$name-static.tar.gz && " ${static[*]} " == *' drat_check '* ]] && has busybox && has cadical; then
   bring busybox
   bring cadical
-  cp "$work/one/$name-static.tar.gz" "$bare/home/"
+  cp "$work/one/$name-static.tar.gz" "$bare/unpacked/"
   if "${enter[@]}" /bin/busybox --install -s /bin > "$work/said" 2>&1; then
     for row in 'four:4:20 s VERIFIED UNSAT' 'one:1:10 s VERIFIED SAT'; do
       IFS=: read -r formula count verdict <<< "$row"
       # (cadical reads no formula without its header)
-      { echo "p cnf 2 $count" && cat "$work/$formula.cnf"; } > "$bare/home/formula.cnf"
+      { echo "p cnf 2 $count" && cat "$work/$formula.cnf"; } > "$bare/unpacked/formula.cnf"
       for heading in '## Install' '# Cefindrato'; do
         status=0
-        said=$("${enter[@]}" sh -c "cd /home && $(plain_blocks "$heading")" 2> "$work/said") || status=$?
+        said=$("${enter[@]}" sh -c "cd /unpacked && $(plain_blocks "$heading")" 2> "$work/said") || status=$?
         same "README.md, $heading, in an empty root" "$verdict" "$status $said$(cat "$work/said")"
       done
     done

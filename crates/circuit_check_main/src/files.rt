@@ -2,7 +2,7 @@
 use circuit_check::{
     CircuitFault, ProofFormat, exit_status, run_never, run_same, write_never, write_same,
 };
-use command::{FAILED, Input, NOT_RUN, open_file, say_cause};
+use command::{FAILED, Input, NOT_RUN, WrittenFiles, open_file, say_cause};
 use log::sink::Discard;
 use std::fs::File;
 use std::io;
@@ -35,31 +35,31 @@ pub(crate) fn check_files(rt: &HostRuntime, circuits: Circuits<'_>, proof: &str)
     Ok(exit_status(&outcome))
 }
 
-/// Writes the formula, and returns the exit status. An Err is that of a file that can't be opened
-/// or written.
-pub(crate) fn write_files(
-    rt: &HostRuntime,
+/// Writes the formula, and returns the exit status. The file has its name once it is whole, and is
+/// none of those that are read. An Err is that of a file that can't be opened or written.
+pub(crate) fn write_files<'a>(
+    rt: &'a HostRuntime,
     circuits: Circuits<'_>,
-    formula: &str,
+    formula: &'a str,
 ) -> Result<u8, u8> {
     let alloc = rt.alloc();
+    let mut files = WrittenFiles::new(rt);
     let (outcome, mut out) = match circuits {
         Circuits::Never(circuit) => {
-            let circuit = open(rt, circuit)?.file;
-            let mut out = create(rt, formula)?;
-            (write_never(alloc, circuit, &mut out), out)
+            let circuit = open(rt, circuit)?;
+            let mut out = create(&mut files, formula, &[&circuit])?;
+            (write_never(alloc, circuit.file, &mut out), out)
         }
         Circuits::Same(circuit, other) => {
-            let circuit = open(rt, circuit)?.file;
-            let other = open(rt, other)?.file;
-            let mut out = create(rt, formula)?;
-            (write_same(alloc, circuit, other, &mut out), out)
+            let (circuit, other) = (open(rt, circuit)?, open(rt, other)?);
+            let mut out = create(&mut files, formula, &[&circuit, &other])?;
+            (write_same(alloc, circuit.file, other.file, &mut out), out)
         }
     };
     let flushed = out.flush();
     say_cause(rt, &outcome);
     say_cause(rt, &flushed);
-    if outcome.is_ok() && flushed.is_ok() {
+    if outcome.is_ok() && flushed.is_ok() && files.finish().is_ok() {
         Ok(0)
     } else {
         Err(FAILED)
@@ -70,17 +70,10 @@ fn open<'a>(rt: &HostRuntime, name: &'a str) -> Result<Input<'a>, u8> {
     open_file(rt, name).ok_or(NOT_RUN)
 }
 
-fn create(rt: &HostRuntime, name: &str) -> Result<BufWriter<File>, u8> {
-    let made = match File::create(rt, name) {
-        Ok(file) => BufWriter::new(rt.alloc(), file),
-        Err(fault) => Err(fault),
-    };
-    match made {
-        Ok(file) => Ok(file),
-        Err(fault) => {
-            let _ = eprintln!(rt; "cannot open {name}");
-            let _ = eprintln!(rt; "{fault}");
-            Err(NOT_RUN)
-        }
-    }
+fn create<'a>(
+    files: &mut WrittenFiles<'a>,
+    name: &'a str,
+    inputs: &[&Input<'_>],
+) -> Result<BufWriter<File>, u8> {
+    files.create_wanted(Some(name), inputs)?.ok_or(NOT_RUN)
 }
