@@ -1,7 +1,7 @@
 -- Ids under which a checker may hold clauses.
 --     knows_first, knows_more      before the first line, and after a line more
 --     nowhere, id_found      a clause that no known id names
---     NamedSoFar      wanted clauses, one after the other
+--     NamedSoFar      target clauses, one after the other
 use Rattle.std.proofs.Common.{◌≡◌, ◌≢◌, ◌⊎◌, inl, inr, ℕ, zero, suc, ◌+◌, ◌-◌, ◌<◌, ◌≤◌, Bool, true, false, cond, eqb, List, [], ◌∷◌, ◌++◌, length, Option, Some, None, refl, sym, ap, ◌∙◌, append_assoc, append-nil, length-append, subst, arith}
 use Rattle.std.specs.Prelude.{◌^◌, min, Contains, MatchOption}
 use Rattle.std.proofs.lemmas.Bool.{eqb-true}
@@ -97,7 +97,7 @@ pub id_found : (formula : List (List ℕ)) (c : LratChecker) (k : KnownIds) (lin
 id_found formula c k lines ready clause of_formula None of_lines = nowhere formula c k lines ready clause of_formula of_lines
 id_found formula c k lines ready clause of_formula (Some id) found = found
 
--- ---- wanted clauses, one after the other
+-- ---- target clauses, one after the other
 
 -- ids name the clauses so far, which are counted, and others are still to come
 pub record NamedSoFar (store : List Item) (number : ℕ) (left wanted : List (List ℕ)) : Type 0 where

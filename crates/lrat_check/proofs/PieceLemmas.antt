@@ -39,12 +39,12 @@ module _ (ids : Option Ids) (formula wanted : List (List ℕ)) (known : Known) w
       P p.ready.accepted.store → Leaves ids formula known P
   left_behind c P p left = search (p.ready.accepted, sym p.ready.accepted.refuted ∙ sym p.answer)
 
-  -- what is found of the wanted clauses in a store: ids name all, or one is the first that none names, and it is told
+  -- what is found of the target clauses in a store: ids name all, or one is the first that none names, and it is reported
   abbrev pub Found : LratChecker → KnownIds → Option MissingClause → List Item → Bool → Type 0
   Found c k told store held = MatchBool held (IsHeld wanted store) (KnowsAll formula c k → (m : MissingClause) × (told ≡ Some m) × IsFirstMissing wanted store m)
 
   module _ (c : LratChecker) (k : KnownIds) (told : Option MissingClause) (p : IsLratAnswer (proof_says ids formula) known formula c (Ok false)) (knows : KnowsAll formula c k) where
-    -- by whether that checker holds the wanted clauses, where each id under which it holds one is known
+    -- by whether that checker holds the target clauses, where each id under which it holds one is known
     pub shows_by : (held : Bool) → Found c k told p.ready.accepted.store held → PieceShows ids formula wanted known (Ok (verdict_by held))
     shows_by true found = left_behind c (IsHeld wanted) p found
     shows_by false found = let f = found knows in left_behind c (Lacks wanted) p (lacks_one wanted p.ready.accepted.store f.0 f.2)
@@ -80,7 +80,7 @@ module _ (ids : Option Ids) (cnf holds known : Known) (formula wanted : List (Li
     piece_shown ids formula wanted known Refuted p,
   )
 
-  -- what is told of both headers
+  -- what is reported of both headers
   pub read_lies : (lie other : Option LyingHeader) (r : Result PieceVerdict PieceFault) → IsLie cnf lie → IsLie holds other →
       IsReadPieceRun ids formula wanted known r → TellsPieceLies cnf holds r lie other
   read_lies lie other (Err (Run (Formula fault))) p q read = absurd read

@@ -34,7 +34,7 @@ use Rattle.lrat_check.proofs.DecideLemmas.{decided}
 abbrev Known : Type 0
 Known = Option (List ℕ)
 
--- ---- in the form that the bytes tell
+-- ---- in the form detected from the bytes
 
 forms_alike : (ids : Option Ids) (n m : ℕ) (bytes : List ℕ) → next_id n ≡ next_id m → form_of ids n bytes ≡ form_of ids m bytes
 forms_alike (Some i) n m bytes e = refl

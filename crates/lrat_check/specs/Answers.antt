@@ -1,5 +1,5 @@
 -- What the check of a proof answers, up to the first line that adds the empty clause. `says` is what the proof's bytes say.
---     proof_says ids formula bytes      in the form that the bytes tell, where that of the ids is not given
+--     proof_says ids formula bytes      in the form detected from the bytes, where that of the ids is not given
 --     IsLratAnswer says known formula c r      the answer, and what the checker has accepted then
 use Rattle.std.specs.Prelude.{◌≡◌, ℕ, Bool, List, [], ◌∷◌, ◌++◌, length, Option, MatchBool, Result, Ok, Err}
 use Rattle.lrat_rules.specs.Lines.{Line}
@@ -28,7 +28,7 @@ pub record IsChecked (says : List ℕ → Outcome) (known : Option (List ℕ))
   pub ready : IsReady formula (said lines) c
   pub answer : found ≡ has_refuted c
 
--- lines were accepted, and the next one, of this number, is refused
+-- lines were accepted, and the next one, of this number, is rejected
 pub record IsRefused (says : List ℕ → Outcome) (known : Option (List ℕ))
     (formula : List (List ℕ)) (c : LratChecker) (number : ℕ) (cause : LratCause) : Type 0 where
   pub lines : List (ℕ × Line)

@@ -2,8 +2,8 @@
 --     added_by line      the id of the clause that a line adds
 --     IsKnown k id      the id is one of the formula's clauses, or of a clause that a line added
 --     KnowsAll formula c k      each id under which a checker holds a clause is known
---     IsHeld wanted store      some ids name the wanted clauses
---     IsNowhere store clause, Lacks wanted store      no id names the clause;  so it is with a wanted one
+--     IsHeld wanted store      some ids name the target clauses
+--     IsNowhere store clause, Lacks wanted store      no id names the clause;  a target clause is so
 --     IsFirstMissing wanted store m      this is the first such one
 use Rattle.std.specs.Prelude.{◌≡◌, ◌≢◌, ◌⊎◌, ℕ, ◌+◌, ◌-◌, ◌^◌, ◌<◌, ◌≤◌, min, List, [], ◌∷◌, ◌++◌, length, Some, Contains}
 use Rattle.sat_rules.specs.Named.{Item, NamedBy}
@@ -30,7 +30,7 @@ pub record KnowsAll (formula : List (List ℕ)) (c : LratChecker) (k : KnownIds)
   pub knows : (id : ℕ) (clause : List ℕ) → id < 2 ^ 64 →
       find ready.accepted.store id ≡ Some clause → IsKnown k id
 
--- ids name the wanted clauses, one each, in their order and with their literals in the same order
+-- ids name the target clauses, one each, in their order and with their literals in the same order
 abbrev pub IsHeld : List (List ℕ) → List Item → Type 0
 IsHeld wanted store = (names : List ℕ) × NamedBy (find store) names wanted
 
@@ -38,11 +38,11 @@ IsHeld wanted store = (names : List ℕ) × NamedBy (find store) names wanted
 abbrev pub IsNowhere : List Item → List ℕ → Type 0
 IsNowhere store clause = (id : ℕ) → id < 2 ^ 64 → find store id ≢ Some clause
 
--- so it is with a wanted clause
+-- a target clause is so
 abbrev pub Lacks : List (List ℕ) → List Item → Type 0
 Lacks wanted store = (clause : List ℕ) × Contains wanted clause × IsNowhere store clause
 
--- this wanted clause is the first of them, by its number, which counts from 1 and stays at the largest of 64 bits
+-- this target clause is the first of them, by its number, which counts from 1 and stays at the largest of 64 bits
 pub record IsFirstMissing (wanted : List (List ℕ)) (store : List Item) (m : MissingClause) :
     Type 0 where
   pub before : List (List ℕ)

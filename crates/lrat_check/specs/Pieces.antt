@@ -1,11 +1,11 @@
--- Runs over one piece of a proof, after a formula and the clauses that are wanted behind the piece.
---     Leaves ids formula known P      the lines of the piece are accepted, none adds the empty clause, and of what is stored then this is so
+-- Runs over one piece of a proof, after a formula and the target clauses of the piece.
+--     Leaves ids formula known P      the lines of the piece are accepted, none adds the empty clause, and of what is stored then this holds
 --     PieceShows ids formula wanted known r      what a piece of these bytes shows
 --     IsReadPieceRun, IsPieceRun      the run after two formulas, and after their texts
---     ShowsMissing, TellsMissing      the wanted clause that is told as missing, after two formulas, and after their texts
+--     ShowsMissing, TellsMissing      the target clause that is reported as missing, after two formulas, and after their texts
 --     IsSilentPiece r, IsUnwrittenPiece r      no line of a verdict was begun;  one was not written whole
 --     BeginsShown, BeginsPiece      what was written then, after two formulas, and after their texts
---     TellsPieceLies      what is told of both headers
+--     TellsPieceLies      what is reported of both headers
 use Rattle.std.specs.Prelude.{◌≡◌, ℕ, Bool, true, false, List, Option, Some, None, Result, Ok, Err}
 use Rattle.sat_rules.specs.Named.{Item}
 use Rattle.lrat_rules.specs.Lines.{Line, is_refuted, run}
@@ -31,7 +31,7 @@ use Rattle.lrat_check.specs.declared.fault.RunFault.TheVariants.{Formula, Proof,
 use Rattle.lrat_check.specs.declared.piece_fault.PieceFault.{PieceFault}
 use Rattle.lrat_check.specs.declared.piece_fault.PieceFault.TheVariants.{Run, Wanted}
 
--- a piece of these bytes has these lines, which are accepted after the formula; neither it nor one of them is the empty clause; and of what is stored after them this is so
+-- a piece of these bytes has these lines, which are accepted after the formula; neither it nor one of them is the empty clause; and of what is stored after them this holds
 pub record Leaves (ids : Option Ids) (formula : List (List ℕ)) (known : Option (List ℕ))
     (P : List Item → Type 0) : Type 0 where
   pub lines : List (ℕ × Line)
@@ -41,7 +41,7 @@ pub record Leaves (ids : Option Ids) (formula : List (List ℕ)) (known : Option
   pub unrefuted : is_refuted formula (said lines) ≡ false
   pub left : P store
 
--- the verdict by whether the wanted clauses were found
+-- the verdict by whether the target clauses were found
 abbrev pub verdict_by : Bool → PieceVerdict
 verdict_by true = Carried
 verdict_by false = NotCarried
@@ -54,7 +54,7 @@ PieceShows ids formula wanted known (Ok Carried) = Leaves ids formula known (IsH
 PieceShows ids formula wanted known (Ok NotCarried) = Leaves ids formula known (Lacks wanted)
 PieceShows ids formula wanted known (Err fault) = Refutes ids formula known (Err fault)
 
--- of what the piece leaves, the first wanted clause that is missing is told
+-- of what the piece leaves, the first target clause that is missing is reported
 abbrev pub ShowsMissing : Option Ids → List (List ℕ) → List (List ℕ) → Option (List ℕ) →
     Option MissingClause → Type 0
 ShowsMissing ids formula wanted known told = (m : MissingClause) × (told ≡ Some m)
@@ -93,7 +93,7 @@ IsSilentPiece (Ok verdict) = ⊥
 IsSilentPiece (Err (Run (Write cause))) = ⊥
 IsSilentPiece r = Unit {0}
 
--- the verdict stands, and its line was not written whole
+-- there is a verdict, and its line was not written whole
 abbrev pub IsUnwrittenPiece : Result PieceVerdict PieceFault → Type 0
 IsUnwrittenPiece (Err (Run (Write cause))) = Unit {0}
 IsUnwrittenPiece r = ⊥
@@ -111,7 +111,7 @@ abbrev pub BeginsPiece : Option Ids → Option (List ℕ) → Option (List ℕ) 
 BeginsPiece ids cnf holds known old new = OfFormulas cnf holds
     (λ formula wanted. BeginsShown ids formula wanted known old new)
 
--- what both headers lie about, of each where the formula was read whole; else nothing
+-- the mismatches of both headers, of each if the formula was read whole; else nothing
 abbrev pub TellsPieceLies : Option (List ℕ) → Option (List ℕ) → Result PieceVerdict PieceFault →
     Option LyingHeader → Option LyingHeader → Type 0
 TellsPieceLies cnf holds (Err (Run (Formula fault))) lie other = (lie ≡ None) × (other ≡ None)

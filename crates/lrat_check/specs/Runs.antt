@@ -1,12 +1,12 @@
--- Runs of a proof after a formula. `ids` is how ids stand in binary lines, where it is given.
+-- Runs of a proof after a formula. `ids` is the encoding of ids in binary lines, where it is given.
 --     shows ids formula text      the formula has the empty clause, or the lines of the proof up to one that adds it are accepted
 --     Refutes ids formula known r      the checker's answer to a proof of these bytes
 --     IsProofRun, IsCheckRun      the run of a proof after a formula, and after a formula's text
 --     IsDecided ids formula text r      what the run says of the proof's bytes
---     IsRefusedRun r      the formula or the proof was refused
+--     IsRefusedRun r      the formula or the proof was rejected
 --     IsUnwritten r      the verdict's line was not written whole
 --     BeginsLine, BeginsLineAfter      what was written then, after a formula, and after a formula's text
---     RunTellsLie cnf r told      this is told of the formula's header
+--     RunTellsLie cnf r told      this is reported of the formula's header
 use Rattle.std.specs.Prelude.{◌≡◌, ℕ, Bool, true, false, List, Option, None, Result, Ok, Err, OnErr, IfSome}
 use Rattle.std.specs.Option.{option_map}
 use Rattle.sat_rules.specs.Clauses.{all_true}
@@ -61,7 +61,7 @@ IsProofRun ids formula known (Err (Write cause)) = (refuted : Bool) × Refutes i
 IsProofRun ids formula known (Err (Proof fault)) = Refutes ids formula known (Err fault)
 IsProofRun ids formula known (Err (Formula fault)) = ⊥
 
--- what the checker's answer says of the whole text; nothing where a read failed or memory was wanted
+-- what the checker's answer says of the whole text; nothing where a read failed or memory ran out
 abbrev pub Decides : Option Ids → List (List ℕ) → List ℕ → Result Bool LratFault → Type 0
 Decides ids formula text (Ok refuted) = shows ids formula text ≡ refuted
 Decides ids formula text (Err (lrat.Read cause)) = Unit {0}
@@ -70,14 +70,14 @@ Decides ids formula text (Err (lrat.Refused line cause)) = shows ids formula tex
 Decides ids formula text (Err lrat.OutOfMemory) = Unit {0}
 Decides ids formula text (Err lrat.Failed) = Unit {0}
 
--- the verdict is that of the text, and a proof with a line that is refused or can't be read shows nothing
+-- the verdict is that of the text, and a proof with a line that is rejected or can't be read shows nothing
 abbrev pub IsDecided : Option Ids → List (List ℕ) → List ℕ → Result Verdict RunFault → Type 0
 IsDecided ids formula text (Ok verdict) = verdict ≡ verdict_of (shows ids formula text)
 IsDecided ids formula text (Err (Write cause)) = Unit {0}
 IsDecided ids formula text (Err (Proof fault)) = Decides ids formula text (Err fault)
 IsDecided ids formula text (Err (Formula fault)) = Unit {0}
 
--- the formula or the proof was refused
+-- the formula or the proof was rejected
 abbrev pub IsRefusedRun : Result Verdict RunFault → Type 0
 IsRefusedRun (Ok verdict) = ⊥
 IsRefusedRun (Err (Write cause)) = ⊥
@@ -96,7 +96,7 @@ abbrev pub IsCheckRun : Option Ids → Option (List ℕ) → Option (List ℕ) �
 IsCheckRun ids cnf known (Err (Formula fault)) = FailsText cnf fault
 IsCheckRun ids cnf known r = IsAfterFormula ids cnf known r
 
--- the verdict stands, and its line was not written whole
+-- there is a verdict, and its line was not written whole
 abbrev pub IsUnwritten : Result Verdict RunFault → Type 0
 IsUnwritten (Err (Write cause)) = Unit {0}
 IsUnwritten r = ⊥
@@ -115,7 +115,7 @@ pub record BeginsLineAfter (ids : Option Ids) (cnf known old new : Option (List 
   pub whole : IsOutcome (option_map dimacs.outcome_of cnf) (formula, Ended)
   pub line : BeginsLine ids formula known old new
 
--- what the header lies about, where the formula was read whole; else nothing
+-- the mismatch of the header, if the formula was read whole; else nothing
 abbrev pub RunTellsLie : Option (List ℕ) → Result Verdict RunFault → Option LyingHeader → Type 0
 RunTellsLie cnf (Err (Formula fault)) told = told ≡ None
 RunTellsLie cnf r told = IsLie cnf told

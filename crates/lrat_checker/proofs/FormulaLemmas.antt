@@ -1,5 +1,5 @@
 -- Clauses of a formula, given one after the other.
-use Rattle.std.proofs.Common.{◌≡◌, ℕ, suc, ◌+◌, false, List, [], ◌∷◌, ◌++◌, length, Option, Some, None, Result, Ok, Err, refl, ap, ◌∙◌, arith}
+use Rattle.std.proofs.Common.{◌≡◌, ℕ, suc, ◌+◌, ◌<◌, ◌≤◌, false, cond, List, [], ◌∷◌, ◌++◌, length, Option, Some, None, Result, Ok, Err, refl, ap, ◌∙◌, arith}
 use Rattle.std.specs.Prelude.{◌||◌, ◌==◌, OnOk}
 use Rattle.std.specs.Result.{is_err}
 use Rattle.std.proofs.lemmas.Bool.{ne_eqb}
@@ -15,6 +15,15 @@ put_more n (d ∷ cs) c t = put_more (suc n) cs c (put n d t) ∙ ap (λ k. put 
 -- one more clause
 pub formula_more : (cs : List (List ℕ)) (c : List ℕ) → formula_table (cs ++ c ∷ []) ≡ put (length cs + 1) c (formula_table cs)
 formula_more cs c = put_more 1 cs c empty_table ∙ ap (λ k. put k c (formula_table cs)) (omega arith)
+
+put_past : (n : ℕ) (cs : List (List ℕ)) (t : Table) (k : ℕ) → n + length cs ≤ k → (put_from n cs t).named k ≡ t.named k
+put_past n [] t k w = refl
+put_past n (c ∷ cs) t k w =
+    put_past (suc n) cs (put n c t) k (omega (arith, w)) ∙ ap (λ b. cond b (Some c) (t.named k)) (ne_eqb k n (λ e. omega (arith, w, e)))
+
+-- the ids after those of a formula name nothing
+pub formula_past : (cs : List (List ℕ)) (k : ℕ) → length cs < k → (formula_table cs).named k ≡ None
+formula_past cs k w = put_past 1 cs empty_table k (omega (arith, w))
 
 -- whether it is empty
 pub empty_more : (cs : List (List ℕ)) (c : List ℕ) → has_empty (cs ++ c ∷ []) ≡ (has_empty cs || has_empty (c ∷ []))

@@ -1,5 +1,5 @@
 -- A clause before its groups, and groups in turn.
-use Rattle.std.proofs.Common.{◌≡◌, ℕ, ◌+◌, Bool, true, false, eqb, List, [], ◌∷◌, Option, Some, is_some}
+use Rattle.std.proofs.Common.{◌≡◌, ℕ, ◌+◌, Bool, true, false, eqb, List, ◌∷◌, Option, Some, None, is_some, arith}
 use Rattle.sat_rules.specs.Named.{negated_set}
 use Rattle.lrat_rules.specs.Counts.{count_of}
 use Rattle.lrat_rules.specs.Groups.{Group, rest_met, without}
@@ -20,3 +20,7 @@ pub group_met : (f : ℕ → Option (List ℕ)) (s : ℕ → Bool) (n : ℕ) (se
     rest_met f s (without n d) (Some g.hints) ≡ true → met_by_groups f s n seen met (g ∷ gs) ≡ met_by_groups f s n (add_id g.id seen) (met + count_of n d) gs
 group_met f s n seen met g gs d unseen found some rest =
     rw (unseen, found, some, rest)
+
+-- an accepted line adds its clause under an id that named none
+pub accepted_free : (t : Table) (i : ℕ) (c : List ℕ) (hs : List Hint) → cause_by_table t (adds i c hs) ≡ None → t.named i ≡ None
+accepted_free t i c hs ok = grind arith

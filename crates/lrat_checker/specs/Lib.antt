@@ -1,5 +1,6 @@
 pub mod FarCounts
 pub mod Counts
+pub mod Uses
 pub mod Causes
 pub mod Faults
 pub mod Propagating

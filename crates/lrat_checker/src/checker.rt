@@ -259,7 +259,7 @@ impl LratChecker {
     {
         match line {
             LratLine::Add { id, clause, hints } => {
-                judge(&self.clauses, &mut self.work, id, clause, hints)?;
+                judge(&mut self.clauses, &mut self.work, id, clause, hints)?;
                 self.clauses.put(id, clause)?;
                 self.refuted |= clause.is_empty();
                 Ok(())

@@ -36,13 +36,6 @@ impl LitCounts {
         }
     }
 
-    /// Returns for how many literals there may be slots.
-    pub(crate) fn stored(&self) -> u64
-        ensures { result ≡ self.now.stored }
-    {
-        self.stored
-    }
-
     /// Returns how often the literal is in stored clauses.
     pub(crate) fn get(&self, lit: Lit) -> u64
         ensures { result ≡ lit_count self.now lit }

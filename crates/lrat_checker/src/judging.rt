@@ -18,20 +18,22 @@ use sat_formula::Lit;
 
 /// Whether a clause may be added under an id by these hints: it follows, or is redundant.
 pub(crate) fn judge(
-    clauses: &Clauses,
+    clauses: &mut Clauses,
     work: &mut Work,
     id: u64,
     clause: &[Lit],
     hints: &[Hint],
 ) -> Result<(), Stop>
     ensures ok { let line = adds id clause.now (map hint_of hints.now) in
-        let found = cause_by_table (table_of clauses.now) line in
+        let found = cause_by_table (table_of clauses.old) line in
         OnOk result (found ≡ None) }
-    ensures taken { is_some ((table_of clauses.now).named id) ≡ true
+    ensures taken { is_some ((table_of clauses.old).named id) ≡ true
         → result ≡ Err (stops.Refused IdTaken) }
     ensures err { let line = adds id clause.now (map hint_of hints.now) in
-        let found = cause_by_table (table_of clauses.now) line in
+        let found = cause_by_table (table_of clauses.old) line in
         IfErr result (λ stop. IsCause stop found) }
+    ensures table { OnOk result (table_of clauses.new ≡ table_of clauses.old) }
+    ensures named { clauses.new.named ≡ clauses.old.named }
 {
     if clauses.contains(id) {
         return Err(Stop::Refused(LratCause::IdTaken));

@@ -23,26 +23,29 @@ use std::alloc::AllocError;
 
 /// Checks that the candidates among the hints show that the clause is RAT on its pivot.
 pub(crate) fn check_groups(
-    clauses: &Clauses,
+    clauses: &mut Clauses,
     work: &mut Work,
     clause: &[Lit],
     hints: &[Hint],
 ) -> Result<(), Stop>
     ensures ok { let given = groups (map hint_of hints.now) in
         let lits = among work.old.values in
-        let found = groups_cause_by (table_of clauses.now) lits clause.now given in
+        let found = groups_cause_by (table_of clauses.old) lits clause.now given in
         OnOk result (found ≡ None) }
     ensures err { let given = groups (map hint_of hints.now) in
         let lits = among work.old.values in
-        let found = groups_cause_by (table_of clauses.now) lits clause.now given in
+        let found = groups_cause_by (table_of clauses.old) lits clause.now given in
         IfErr result (λ stop. IsCause stop found) }
+    ensures table { OnOk result (table_of clauses.new ≡ table_of clauses.old) }
+    ensures named { clauses.new.named ≡ clauses.old.named }
 {
     let Some(pivot) = clause.first() else {
         return Err(Stop::Refused(LratCause::NoConflict));
     };
     let negation = !*pivot;
     let met = meet_groups(clauses, work, negation, hints)?;
-    if met != clauses.count(negation) {
+    let count = clauses.count(negation)?;
+    if met != count {
         return Err(Stop::Refused(missing_cause(hints)));
     }
     Ok(())

@@ -25,7 +25,7 @@ more_uses : (n d : ℕ) (st : List Item) → uses n (without_ids (d ∷ []) st) 
 more_uses n d [] = omega arith
 more_uses n d (x ∷ st) = grind (arith, eqb-true, more_uses n d st)
 
--- and no more, where no id stands twice
+-- and no more, where no id occurs twice
 pub uses_without : (n d : ℕ) (st : List Item) → ids_once st ≡ true → uses n (without_ids (d ∷ []) st) + count_in n (find st d) ≡ uses n st
 uses_without n d [] o = refl
 uses_without n d (x ∷ st) o = grind (arith, eqb-true, uses_without n d st)

@@ -1,4 +1,4 @@
--- The checks rest on the map from ids to clauses.
+-- The checks depend on the map from ids to clauses.
 use Rattle.std.proofs.Common.{◌≡◌, ℕ, suc, ◌<◌, Bool, true, false, cond, not, ◌||◌, eqb, List, [], ◌∷◌, filter, Option, Some, None, is_none, refl, sym, ap, ◌∙◌, arith, eq-eqb}
 use mathlib.Core.Path.{fun_ext}
 use Rattle.std.specs.List.{list_any, list_all}
@@ -25,7 +25,7 @@ pub found_left : (st : List Item) (is : List ℕ) (k : ℕ) → find (without_id
 found_left [] is k = grind arith
 found_left (x ∷ st) is k = grind (arith, eqb-true k x.id, found_left st is k)
 
--- no id stands twice
+-- no id occurs twice
 pub below_none : (k n : ℕ) (cs : List (List ℕ)) → k < n → find (numbered n cs) k ≡ None
 below_none k n [] h = refl
 below_none k n (c ∷ cs) h = grind (arith, below_none k (suc n) cs)

@@ -126,7 +126,7 @@ module _ (st : List Item) (s : ℕ → Bool) (n : ℕ) where
       rest_met (find st) s (without n d) (Some g.hints) ≡ false → Fails seen (g ∷ gs)
   failed seen g gs d e h u q = record { id = g.id; clause = d; hints = g.hints; stored = e; holds = h; unseen = u; group = grind arith; unmet = q }
 
-  -- a group that is met is one more
+  -- a candidate that passes is one more
   counted : (seen : ℕ → Bool) (met : ℕ) (g : Group) (gs : List Group) (d : List ℕ) → find st g.id ≡ Some d → rest_met (find st) s (without n d) (Some g.hints) ≡ true → seen g.id ≡ false →
       (o : Option ℕ) → Told (add_id g.id seen) (met + count_of n d) gs o → Told seen met (g ∷ gs) o
   counted seen met g gs d e r u None f = record {
@@ -179,7 +179,7 @@ any_stored : (q : Item → Bool) (st : List Item) (i : ℕ) (d : List ℕ) → f
 any_stored q [] i d e t = absurd (none-some d e)
 any_stored q (x ∷ st) i d e t = grind (arith, eqb-true i x.id, any_stored q st i d)
 
--- and where no id stands twice, one that passes is found
+-- and where no id occurs twice, one that passes is found
 stored_any : (q : Item → Bool) (st : List Item) → ids_once st ≡ true → list_any q st ≡ true → (x : Item) × (find st x.id ≡ Some x.lits) × (q x ≡ true)
 stored_any q [] o h = absurd (false≢true h)
 stored_any q (x ∷ st) o h = elim (or_cases (q x) (list_any q st) h) [

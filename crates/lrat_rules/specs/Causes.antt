@@ -1,4 +1,4 @@
--- Why a line is refused.
+-- Why a line is rejected.
 --     id_taken      the id of the new clause is stored
 --     unknown_id      a leading hint names no clause
 --     not_unit      a leading hint names a clause with two literals that are not false

@@ -1,4 +1,4 @@
--- Further rows: why lines are refused, and lines that wrong rules would judge otherwise.
+-- Further rows: why lines are rejected, and lines that wrong rules would judge otherwise.
 use Rattle.std.specs.Prelude.{◌≡◌, List, [], ◌∷◌, true, false, Some, None}
 use Rattle.sat_rules.specs.Named.{Item}
 use Rattle.sat_rules.specs.Clauses.{neg, pos}
@@ -41,10 +41,10 @@ pub record FurtherLratRows : Type 0 where
       Some no_conflict
   -- `4 0 2 -1 0`: but its leading hints are
   pub empty_stuck : cause_of_line three (adds 4 [] (along 2 ∷ against 1 ∷ [])) ≡ Some not_unit
-  -- `4 1 1 0 -1 2 3 0`: a pivot that stands twice
+  -- `4 1 1 0 -1 2 3 0`: a pivot that occurs twice
   pub doubled_pivot : accepts three
       (adds 4 (pos 1 ∷ pos 1 ∷ []) (against 1 ∷ along 2 ∷ along 3 ∷ [])) ≡ true
-  -- `2 1 0 -1 0` on 1: -1 -1 2: the negation goes wherever it stands, and 2 is left
+  -- `2 1 0 -1 0` on 1: -1 -1 2: the negation is removed wherever it occurs, and 2 is left
   pub doubled_negation : cause_of_line (formula_store ((neg 1 ∷ neg 1 ∷ pos 2 ∷ []) ∷ []))
       (adds 2 (pos 1 ∷ []) (against 1 ∷ [])) ≡ Some group_fails
   pub doubled_negation_met : accepts (formula_store ((neg 1 ∷ neg 1 ∷ pos 2 ∷ []) ∷ []))
@@ -78,7 +78,7 @@ pub record FurtherLratRows : Type 0 where
       (along 900 ∷ []) ∷ deletes (1 ∷ 2 ∷ 3 ∷ []) ∷ []) ≡
       Some (record { id = 7; lits = pos 2 ∷ pos 9 ∷ [] } ∷ record { id = 900; lits = pos 2 ∷ [] } ∷
       [])
-  -- `3 d 3 0`, `3 2 -3 0 ..`: a deleted id may come again, and names the new clause
+  -- `3 d 3 0`, `3 2 -3 0 ..`: a deleted id may be used again, and names the new clause
   pub again : run (formula_store four)
       (adds 5 (pos 1 ∷ []) (along 1 ∷ along 2 ∷ []) ∷ deletes (5 ∷ []) ∷
       adds 5 (neg 1 ∷ []) (along 3 ∷ along 4 ∷ []) ∷ deletes (1 ∷ 2 ∷ 3 ∷ 4 ∷ []) ∷ []) ≡

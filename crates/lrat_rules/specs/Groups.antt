@@ -2,7 +2,7 @@
 --     Group      the id of a stored clause, and the hints for it
 --     without n c      the rest of a clause that is resolved
 --     rest_met f s rest o      what the hints of a group must show
---     all_met st s c gs      every stored clause with the pivot's negation is met by its group
+--     all_met st s c gs      every candidate, a stored clause with the pivot's negation, passes with its group
 use Rattle.std.specs.Prelude.{ℕ, Bool, false, not, ◌||◌, ◌==◌, if◌then◌else◌, List, [], ◌∷◌, filter, Option, Some, None}
 use Rattle.std.specs.List.{list_any, list_all}
 use Rattle.sat_rules.specs.Clauses.{has, negate}
@@ -38,7 +38,7 @@ abbrev pub is_met : List Item → (ℕ → Bool) → ℕ → List Group → Item
 is_met st s n gs x = not (has n x.lits) || rest_met (find st) s (without n x.lits)
     (group_for x.id gs)
 
--- every stored clause with the negation of the pivot is met;  the empty clause has no pivot
+-- every candidate, a stored clause with the negation of the pivot, passes;  the empty clause has no pivot
 abbrev pub all_met : List Item → (ℕ → Bool) → List ℕ → List Group → Bool
 all_met st s [] gs = false
 all_met st s (p ∷ ps) gs = list_all (is_met st s (negate p) gs) st

@@ -3,7 +3,7 @@
 --     leading hs, groups hs      the hints before the groups;  the groups
 --     by_rup st c hs, by_rat st c hs      the clause follows by propagation;  it is redundant by its first literal
 --     accepts st line, after st line      whether a line is accepted;  the store after an accepted one
---     step st line, run st lines      the store after a line, and after all lines in turn;  None: refused
+--     step st line, run st lines      the store after a line, and after all lines in turn;  None: rejected
 --     refutes st lines      the lines up to one that adds the empty clause are accepted
 --     is_refuted formula lines      so are they after the formula's clauses, or one of these is empty
 --     RunsRefute      then no assignment satisfies the formula
@@ -67,7 +67,7 @@ after st (deletes is) = without_ids is st
 abbrev pub step : List Item → Line → Option (List Item)
 step st l = if accepts st l then Some (after st l) else None
 
--- go on, where there is a store
+-- continue, where there is a store
 abbrev pub then_run : Option (List Item) → (List Item → Option (List Item)) → Option (List Item)
 then_run None go = None
 then_run (Some st) go = go st

@@ -1,5 +1,5 @@
 -- The map from ids to sets of literals decides every check, in whatever order clauses and literals are kept.
---     ids_once st      no id stands twice
+--     ids_once st      no id occurs twice
 --     SameMap st su      under every id a clause with the same literals
 --     MetByMap, MapDecides, AdmittedIsRup      the laws
 use Rattle.std.specs.Prelude.{◌≡◌, ◌↔◌, ℕ, Bool, true, ◌&&◌, if◌then◌else◌, List, [], ◌∷◌, map, Option, Some, None, is_none}
@@ -10,7 +10,7 @@ use Rattle.lrat_rules.specs.Groups.{Group, group_for, is_met, rest_met, without}
 use Rattle.lrat_rules.specs.Lines.{Hint, Line, along, by_rup, run, step}
 use Rattle.lrat_rules.specs.Stores.{find, formula_store, without_ids}
 
--- no id stands twice
+-- no id occurs twice
 abbrev pub ids_once : List Item → Bool
 ids_once [] = true
 ids_once (x ∷ st) = is_none (find st x.id) && ids_once st
@@ -30,23 +30,23 @@ SameNamed (Some c) (Some d) = SameLits c d
 abbrev pub SameMap : List Item → List Item → Type 0
 SameMap st su = (i : ℕ) → SameNamed (find st i) (find su i)
 
--- both lines are refused, or both accepted with the same map
+-- both lines are rejected, or both accepted with the same map
 abbrev pub SameStep : Option (List Item) → Option (List Item) → Type 0
 SameStep None None = Unit {0}
 SameStep None (Some su) = ⊥
 SameStep (Some st) None = ⊥
 SameStep (Some st) (Some su) = SameMap st su
 
--- every stored clause is met exactly where each clause with n that an id names meets its group
+-- every candidate passes exactly where each clause with n that an id names passes with its group
 abbrev pub MetByMap : Type 0
 MetByMap = (st : List Item) (s : ℕ → Bool) (n : ℕ) (gs : List Group) → ids_once st ≡ true →
     (list_all (is_met st s n gs) st ≡ true) ↔
     ((i : ℕ) (d : List ℕ) → find st i ≡ Some d → has n d ≡ true →
     rest_met (find st) s (without n d) (group_for i gs) ≡ true)
 
--- what rests on the map alone
+-- what depends on the map alone
 pub record MapDecides : Type 0 where
-  -- from a formula on, no id stands twice
+  -- from a formula on, no id occurs twice
   pub once : (formula : List (List ℕ)) (su : List Item) (ls : List Line) →
       run (formula_store formula) ls ≡ Some su → ids_once su ≡ true
   -- stores with the same map accept the same lines, and have the same map after them

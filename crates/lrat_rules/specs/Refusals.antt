@@ -1,4 +1,4 @@
--- The cause for which a line is refused.
+-- The cause for which a line is rejected.
 --     cause_of_line st line      the first cause, or None where the line is accepted
 --     CausesAreExact      there is none exactly where the line is accepted
 use Rattle.std.specs.Prelude.{◌≡◌, ◌↔◌, ℕ, Bool, true, not, ◌&&◌, if◌then◌else◌, List, [], ◌∷◌, Option, Some, None, is_some}
@@ -11,13 +11,13 @@ use Rattle.lrat_rules.specs.Lines.{Line, accepts, adds, deletes, groups, led}
 use Rattle.lrat_rules.specs.Propagation.{Ending, conflict, open_at, stuck}
 use Rattle.lrat_rules.specs.Stores.{find}
 
--- a stored clause with n has a group, which does not meet it
+-- a stored clause with n has a group, with which it does not pass
 abbrev pub is_failed : List Item → (ℕ → Bool) → ℕ → List Group → Item → Bool
 is_failed st s n gs x = has n x.lits &&
     (is_some (group_for x.id gs) && not
     (rest_met (find st) s (without n x.lits) (group_for x.id gs)))
 
--- why groups don't meet all clauses: there is no pivot or no group at all; one fails; one is missing
+-- why not all candidates pass: there is no pivot or no group at all; one fails; one is missing
 abbrev pub unmet : List Item → (ℕ → Bool) → List ℕ → List Group → Cause
 unmet st s [] gs = no_conflict
 unmet st s (p ∷ ps) [] = no_conflict

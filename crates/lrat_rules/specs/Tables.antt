@@ -1,7 +1,7 @@
 -- The rules over a table of clauses by id and a count for each literal, as a checker keeps them: no clause is searched for.
---     Table      the clause of each id, and how often each literal stands in all clauses
+--     Table      the clause of each id, and how often each literal occurs in all clauses
 --     put i c t, drop_all is t      the table with one more clause;  without the clauses of the ids
---     cause_by_table t line, table_after t line      the cause for which a line is refused;  the table after an accepted one
+--     cause_by_table t line, table_after t line      the cause for which a line is rejected;  the table after an accepted one
 --     IsTableOf t st, TablesDecide      the table of a store;  they decide alike
 use Rattle.std.specs.Prelude.{◌≡◌, ℕ, suc, ◌+◌, ◌-◌, Bool, true, false, ◌||◌, ◌==◌, if◌then◌else◌, List, [], ◌∷◌, Option, Some, None, is_some}
 use Rattle.sat_rules.specs.Clauses.{negate}
@@ -15,7 +15,7 @@ use Rattle.lrat_rules.specs.Propagation.{propagate}
 use Rattle.lrat_rules.specs.Refusals.{cause_at, cause_of_line}
 use Rattle.lrat_rules.specs.Stores.{find, formula_store}
 
--- the clause of each id, and how often each literal stands in all of them
+-- the clause of each id, and how often each literal occurs in all of them
 pub record Table : Type 0 where
   pub named : ℕ → Option (List ℕ)
   pub counts : ℕ → ℕ
@@ -66,7 +66,7 @@ no_id k = false
 abbrev pub add_id : ℕ → (ℕ → Bool) → ℕ → Bool
 add_id i seen k = k == i || seen k
 
--- the groups in turn, each id once: how often n stands in the clauses that are met; None: a group fails
+-- the groups in turn, each id once: how often n occurs in the candidates that pass; None: one fails
 abbrev pub met_by_groups : (ℕ → Option (List ℕ)) → (ℕ → Bool) → ℕ → (ℕ → Bool) → ℕ → List Group →
     Option ℕ
 met_by_groups f s n seen met [] = Some met
@@ -103,13 +103,13 @@ abbrev pub table_after : Table → Line → Table
 table_after t (adds i c hs) = put i c t
 table_after t (deletes is) = drop_all is t
 
--- the clauses of the store by their ids, each id once, and how often each literal stands in it
+-- the clauses of the store by their ids, each id once, and how often each literal occurs in it
 pub record IsTableOf (t : Table) (st : List Item) : Type 0 where
   pub once : ids_once st ≡ true
   pub named : (i : ℕ) → t.named i ≡ find st i
   pub counts : (n : ℕ) → t.counts n ≡ uses n st
 
--- a table of a store refuses what the store refuses, for the same cause, and is after a line the table of the store after it
+-- a table of a store rejects what the store rejects, for the same cause, and is after a line the table of the store after it
 pub record TablesDecide : Type 0 where
   pub formula : (cs : List (List ℕ)) → IsTableOf (formula_table cs) (formula_store cs)
   pub cause : (t : Table) (st : List Item) → IsTableOf t st → (l : Line) →

@@ -74,7 +74,7 @@ static DOUBLED: [Row; 5] = [
     ),
 ];
 
-/// First bytes, how many clauses the formula has, and the form that they tell.
+/// First bytes, how many clauses the formula has, and the form that is detected.
 static FORMS: [(&[u8], u64, LratForm); 17] = [
     (b"", 3, LratForm::Text),
     (b"4 0 1 0\n", 3, LratForm::Text),
@@ -94,7 +94,7 @@ static FORMS: [(&[u8], u64, LratForm); 17] = [
         LratForm::Binary(Doubled),
     ),
     (b"a", 3, LratForm::Binary(Doubled)),
-    // lists that end with a 0 of two bytes, behind which bytes of a line would tell something else
+    // lists that end with a 0 of two bytes, after which bytes of a line would show something else
     (
         b"a\x08\x02\x80\x00\x02\x00a\x0A\x00d\x03\x00",
         3,
@@ -133,7 +133,7 @@ fn lines(rt: HostRuntime) {
     are_shown(&rt, rt.alloc(), Doubled, &DOUBLED);
 }
 
-/// Whether these bytes tell this form, after a formula of this many clauses.
+/// Returns whether this form is detected from these bytes, after a formula of this many clauses.
 fn is_told(alloc: Global, proof: Pieces<'_>, clauses: u64, form: LratForm) -> bool {
     match open_proof(alloc, proof, None, clauses) {
         Ok(reader) => reader.form() == form,

@@ -42,7 +42,7 @@ const GROUP_FAILS: &str = "line 1: hints of a candidate end without a conflict";
 
 const GROUP_MISSING: &str = "line 1: no hints for a clause with the negation of the pivot";
 
-/// How answers of refused lines begin.
+/// How answers of rejected lines begin.
 static LINES: [(usize, &str); 3] = [(1, "line 1:"), (2, "line 2:"), (3, "line 3:")];
 
 fn read(rt: &impl Abort, alloc: Global, formula: &str) -> CnfFormula {

@@ -50,7 +50,7 @@ static FORMULAS: [(&str, &str); 3] = [
 
 type Texts<'a> = (Pieces<'a>, Pieces<'a>);
 
-/// As much of the line is written as there is room for.
+/// As much of the line is written as fits.
 fn ran(alloc: Global, (cnf, proof): Texts<'_>, room: usize) -> Ended {
     let mut page = Page::of_room(alloc, room);
     let answer = run_check(alloc, cnf, proof, None, &mut page, &mut None);

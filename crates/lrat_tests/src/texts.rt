@@ -53,7 +53,7 @@ fn shown(alloc: Global, text: Pieces<'_>, lines: u32) -> Shown {
     shown
 }
 
-/// How many lines stand whole in the text.
+/// Returns how many lines of the text are whole.
 pub fn line_ends(text: &[u8]) -> usize {
     let mut count: usize = 0;
     for byte in text {

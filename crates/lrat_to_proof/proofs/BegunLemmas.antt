@@ -46,7 +46,7 @@ module _ (start now : Option (List ℕ)) where
   pub begun_to_end : (c : Converted) → HasBegun start now c.steps → HasBegun start now (whole c)
   begun_to_end c p = begun_before c.steps (end_proof ∷ []) p
 
-  -- the steps so far stand before those of clauses that go
+  -- the steps so far come before those of clauses that are removed
   steps_before : (c : Converted) (ids : List ℕ) → (more : List Step) × ((delete_all c ids).steps ≡ c.steps ++ more)
   steps_before c [] = ([], sym (append-nil c.steps))
   steps_before c (i ∷ is) =

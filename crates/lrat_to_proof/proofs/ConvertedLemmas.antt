@@ -1,7 +1,7 @@
 -- What a converter has converted, a step more.
 --     hash-is      the hash of its hasher is that of the rules
 --     converted_add, cause_add      a line that adds a clause
---     converted_delete      a clause that goes
+--     converted_delete      a clause that is removed
 --     stopped_before, stopped_add, stopped_all      a line that was given up
 use Rattle.std.proofs.Common.{◌≡◌, ℕ, false, List, [], ◌++◌, inl, inr, Option, Result, Ok, Err, refl, sym, ap, ◌∙◌, subst, cond}
 use Rattle.std.specs.Prelude.{is_some}
@@ -34,7 +34,7 @@ module _ (width : ℕ) (start old : Option (List ℕ)) (c : Converted) (x : Conv
       on_free : add_line width c i lits hints ≡ added c i (from_line lits) (gather (clause_hash no_name width) c.held [] hints)
       on_free = ap (λ b. cond b (Err IdTaken) (added c i (from_line lits) (gather (clause_hash no_name width) c.held [] hints))) (ap (λ (held : Holding). is_some (held.entries i)) (sym h.held) ∙ free)
 
-      -- hints that are refused
+      -- hints that are rejected
       pub cause_of_hints : (stop : Stop) → IsCause stop (gather (hash_of x.hasher) (holding_of x.held) [] hints) → IsCause stop (add_line width c i lits hints)
       cause_of_hints (Refused cause) e = on_free ∙ ap (added c i (from_line lits)) (sym (gathered hints) ∙ e)
       cause_of_hints (GivenUp why) e = tt
@@ -71,7 +71,7 @@ module _ (width : ℕ) (start old : Option (List ℕ)) (c : Converted) (x : Conv
   pub stopped_all : (ids : List ℕ) (new : Option (List ℕ)) → HasBegun start new (delete_all c ids).steps → StopsIn start new c (Ok (delete_all c ids))
   stopped_all ids new begun = record { upto = delete_all c ids; is = inr refl; begun = begun }
 
-  -- a clause that goes
+  -- a clause that is removed
   pub converted_delete : (i : ℕ) (new : Option (List ℕ)) (y : Converter) → HasWritten start new (c.steps ++ deletion ((holding_of x.held).entries i)) y.steps →
       holding_of y.held ≡ drop_entry i (holding_of x.held) → y.hasher ≡ x.hasher → HasConverted width start new (delete_one c i) y
   converted_delete i new y written held hasher = record {

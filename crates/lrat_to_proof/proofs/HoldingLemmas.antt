@@ -1,5 +1,5 @@
 -- What is held, a change more.
---     not_rising      what is told of a list by whether its variables rise
+--     not_rising      what is known of a list by whether its variables rise
 --     holding_ext, holds_nothing, holds_more, entries_put, entries_drop      what is held, by its parts
 use Rattle.std.proofs.Common.{arith, add-one, ◌≡◌, ◌≤◌, ◌+◌, ◌/◌, ◌&&◌, ◌||◌, if◌then◌else◌, ℕ, suc, Bool, true, false, not, eqb, ltb, ltb-true, List, [], ◌∷◌, Option, Some, None, refl, ap, ◌∙◌}
 use mathlib.Core.Path.{fun_ext}

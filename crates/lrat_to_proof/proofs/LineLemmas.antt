@@ -1,7 +1,7 @@
 -- The lines of a proof in turn.
 --     run-more      one line more at the end
 --     SoFar      the lines that were read so far, all of them converted
---     given_up_first, begun_end, given_up      a proof that was given up before its lines and behind them
+--     given_up_first, begun_end, given_up      a proof that was given up before its lines and after them
 use Rattle.std.proofs.Common.{◌≡◌, ℕ, Bool, true, false, List, [], ◌∷◌, ◌++◌, ◌⊎◌, inl, inr, Option, Some, None, Result, Ok, Err, MatchBool, refl, sym, ap, ◌∙◌, append-nil, subst, cond}
 use Rattle.std.specs.Prelude.{IfSome}
 use Rattle.lrat_rules.specs.Lines.{Line}
@@ -61,7 +61,7 @@ done-is width start now c x b h e = subst (λ held. held.refuted ≡ b) h.held e
 
 -- ---- the loop over lines
 
--- the lines so far, and how the proof goes on
+-- the lines so far, and how the proof continues
 pub record SoFar {R : Type 0} (remaining : R → Option (List ℕ)) (known : Known) (form : LratForm) (reader : LratReader R) (width : ℕ) (c : Converted) (start now : Option (List ℕ)) (x : Converter) : Type
     0 where
   pub lines : List (ℕ × Line)
@@ -113,7 +113,7 @@ module _ {R : Type 0} (remaining : R → Option (List ℕ)) (known : Known) (for
           }
 
     module _ (says : List ℕ → Outcome) (same : ReadSo says known form) where
-      -- no more is wanted
+      -- no more is asked for
       pub so_far_done : (holding_of x.held).refuted ≡ true → ConvertsLines says known width c start now x (Ok tt)
       so_far_done done = (
         so.lines,
@@ -148,7 +148,7 @@ module _ {R : Type 0} (remaining : R → Option (List ℕ)) (known : Known) (for
             IsBegun says known width c start later
         given_up_in line gives later s = so_far_begun line gives later s.upto s.is s.begun
 
-        -- a line that is refused, or that was given up
+        -- a line that is rejected, or that was given up
         pub so_far_refused : (line : LratLine) → Gives remaining old new (Ok (Some line)) → (stop : Stop) (later : Option (List ℕ)) → (IsRefusal stop → later ≡ now) →
             ((d : Converted) → HasConverted width start now d x → IsCause stop (next width d (view line))) →
             ((d : Converted) → HasConverted width start now d x → IsGivenUp stop → StopsIn start later d (next width d (view line))) →
@@ -238,7 +238,7 @@ module _ (says : List ℕ → Outcome) (known : Known) (width : ℕ) (c : Conver
   begun_end lines d leads begun = record { lines = lines; after = d; text = begins_led says known lines d.held.refuted leads.text; ran = leads.ran; written = begun }
 
 module _ (says : List ℕ → Outcome) (known : Known) (width : ℕ) (c : Converted) (start now : Option (List ℕ)) (x : Converter) (h : HasConverted width start now c x) where
-  -- no line is wanted
+  -- no line is asked for
   pub none_wanted : (holding_of x.held).refuted ≡ true → ConvertsLines says known width c start now x (Ok tt)
   none_wanted done = (
     [],

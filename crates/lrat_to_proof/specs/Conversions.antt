@@ -8,7 +8,7 @@ abbrev pub conversion_of : Bool → Conversion
 conversion_of true = Refuted
 conversion_of false = Open
 
--- the proof comes to the empty clause
+-- the proof derives the empty clause
 abbrev pub shows_unsat : Conversion → Bool
 shows_unsat Refuted = true
 shows_unsat Open = false

@@ -3,7 +3,7 @@
 --     begun width formula      before the first line
 --     gather hash h found hints      the hashes of hints
 --     derivation c hashes, deletion e      the steps of an added clause and of a deleted one
---     next width c line, run width c lines      one line more, and all lines in turn;  or why a line is refused
+--     next width c line, run width c lines      one line more, and all lines in turn;  or why a line is rejected
 --     whole c      all steps of the proof
 use Rattle.std.specs.Prelude.{ℕ, true, ◌&&◌, ◌==◌, if◌then◌else◌, List, [], ◌∷◌, ◌++◌, Option, Some, None, is_some, Result, Ok, Err}
 use Rattle.sat_rules.specs.Clauses.{is_tautology}
@@ -37,7 +37,7 @@ no_name v = None
 abbrev pub hashes_of : (List ℕ → ℕ) → List ℕ → List ℕ
 hashes_of hash c = if is_named c then hash c ∷ [] else []
 
--- go on with the clause of an id, where there is one
+-- continue with the clause of an id, where there is one
 abbrev pub on_entry : Option Entry → (List ℕ → Result (List ℕ) LineCause) →
     Result (List ℕ) LineCause
 on_entry None go = Err UnknownId
@@ -50,7 +50,7 @@ gather hash h found (against d ∷ hs) = Err RatGroup
 gather hash h found (along i ∷ hs) =
     on_entry (h.entries i) (λ c. gather hash h (found ++ hashes_of hash c) hs)
 
--- an added clause, a canonical list, as a redundant one; a tautology says nothing, and a checker would refuse it
+-- an added clause, a canonical list, as a redundant one; a tautology says nothing, and a checker would reject it
 abbrev pub derivation : List ℕ → List ℕ → List Step
 derivation c hashes = if is_tautology c then [] else at_clause true c hashes ∷ []
 
@@ -70,14 +70,14 @@ add_line width c i lits hints =
 
 -- ---- clauses that are deleted
 
--- one copy of a clause that a line added goes; those of the formula stay, and so do units
+-- one copy of a clause that a line added is removed; those of the formula stay, and so do units
 abbrev pub deletion : Option Entry → List Step
 deletion None = []
 deletion (Some e) =
     if e.derived && is_named e.lits then delete_clause by_redundant e.lits ∷ []
     else []
 
--- the clause of an id goes; an id that names none is passed over
+-- the clause of an id is removed; an id that names none is passed over
 abbrev pub delete_one : Converted → ℕ → Converted
 delete_one c i = record {
   steps = c.steps ++ deletion (c.held.entries i);
@@ -91,12 +91,12 @@ delete_all c (i ∷ is) = delete_all (delete_one c i) is
 
 -- ---- lines
 
--- after one line more, or why it is refused
+-- after one line more, or why it is rejected
 abbrev pub next : ℕ → Converted → Line → Result Converted LineCause
 next width c (adds i lits hints) = add_line width c i lits hints
 next width c (deletes is) = Ok (delete_all c is)
 
--- go on, where the line was not refused
+-- continue, where the line was not rejected
 abbrev pub then_run : Result Converted LineCause → (Converted → Result Converted LineCause) →
     Result Converted LineCause
 then_run (Err cause) go = Err cause

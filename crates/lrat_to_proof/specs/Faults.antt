@@ -26,7 +26,7 @@ of_text (texts.Read cause) = Read cause
 of_text (texts.Line line kind) = Unread line kind
 of_text texts.OutOfMemory = OutOfMemory
 
--- the rules refuse it for this cause, unless nothing more can be written
+-- the rules reject it for this cause, unless nothing more can be written
 abbrev pub IsCause : {A : Type 0} → Stop → Result A LineCause → Type 0
 IsCause (stops.Refused cause) r = r ≡ Err cause
 IsCause (stops.GivenUp why) r = Unit {0}
@@ -36,7 +36,7 @@ abbrev pub IsGivenUp : Stop → Type 0
 IsGivenUp (stops.Refused cause) = ⊥
 IsGivenUp (stops.GivenUp why) = Unit {0}
 
--- the rules refuse the line
+-- the rules reject the line
 abbrev pub IsRefusal : Stop → Type 0
 IsRefusal (stops.Refused cause) = Unit {0}
 IsRefusal (stops.GivenUp why) = ⊥

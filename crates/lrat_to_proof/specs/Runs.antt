@@ -1,8 +1,8 @@
--- Conversions of the lines of a proof. `says` is what the proof's bytes say, and `ids` how ids stand in binary lines, where it is given.
---     proof_says ids n bytes      after a formula of n clauses, in the form that the bytes tell
---     IsStopped says known width c start now r      the lines after c are converted up to one that is refused, or that can't be read, or as far as they could be written
+-- Conversions of the lines of a proof. `says` is what the proof's bytes say, and `ids` the encoding of ids in binary lines, where it is given.
+--     proof_says ids n bytes      after a formula of n clauses, in the form detected from the bytes
+--     IsStopped says known width c start now r      the lines after c are converted up to one that is rejected, or that can't be read, or as far as they could be written
 --     IsProofRun, IsRun      the conversion of a proof after a formula, and after a formula's text
---     RunTellsLie cnf r told      this is told of the formula's header
+--     RunTellsLie cnf r told      this is reported of the formula's header
 use Rattle.std.specs.Prelude.{◌≡◌, ℕ, false, List, [], ◌∷◌, ◌++◌, length, MatchBool, Option, None, Result, Ok, Err}
 use Rattle.std.specs.Io.KnownBytes.{Appends}
 use Rattle.std.specs.Option.{option_map}
@@ -41,7 +41,7 @@ pub record Leads (says : List ℕ → Outcome) (known : Option (List ℕ)) (widt
   pub text : MatchBool d.held.refuted (BeginsWith says known lines) (SaysAll says known lines texts.Ended)
   pub ran : run width c (said lines) ≡ Ok d
 
--- lines were converted, and the next one, of this number, is refused; the output holds the steps of those before
+-- lines were converted, and the next one, of this number, is rejected; the output holds the steps of those before
 pub record IsRefused (says : List ℕ → Outcome) (known : Option (List ℕ)) (width : ℕ) (c : Converted)
     (start now : Option (List ℕ)) (number : ℕ) (cause : LineCause) : Type 0 where
   pub lines : List (ℕ × Line)
@@ -63,7 +63,7 @@ pub record IsUnread (says : List ℕ → Outcome) (known : Option (List ℕ)) (w
   pub is_open : before.held.refuted ≡ false
   pub written : Appends start now (text_2 before.steps)
 
--- lines were converted, with which the proof begins, and this is so of what they lead to
+-- lines were converted, with which the proof begins, and this holds of what they lead to
 pub record IsUpTo (says : List ℕ → Outcome) (known : Option (List ℕ)) (width : ℕ) (c : Converted)
     (P : Converted → Type 0) : Type 0 where
   pub lines : List (ℕ × Line)
@@ -136,7 +136,7 @@ IsRun ids cnf known width old new (Err (Formula fault)) =
     × ((clauses : List (List ℕ)) × FailsAfter (option_map dimacs.outcome_of cnf) clauses fault)
 IsRun ids cnf known width old new r = IsAfterFormula ids cnf known width old new r
 
--- what the header lies about, where the formula was read whole; else nothing
+-- the mismatch of the header, if the formula was read whole; else nothing
 abbrev pub RunTellsLie : Option (List ℕ) → Result Conversion ConvertFault → Option LyingHeader →
     Type 0
 RunTellsLie cnf (Err (Formula fault)) told = told ≡ None

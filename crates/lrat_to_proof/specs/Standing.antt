@@ -1,4 +1,4 @@
--- What the parts of a converter stand for.
+-- What the parts of a converter represent.
 --     entry_of derived c, holding_of x      a clause that is held;  all of them
 --     HasWritten start now steps w      the writer wrote these steps, after what the output held at the start
 --     HasBegun start now steps      a beginning of their bytes was written
@@ -62,14 +62,14 @@ pub record HasConverted (width : ℕ) (start now : Option (List ℕ)) (c : Conve
   pub bits : x.hasher.hash_bits ≡ width
   pub names : applied_of x.hasher ≡ no_name
 
--- the converter has converted as the rules say, and they refuse nothing
+-- the converter has converted as the rules say, and they reject nothing
 pub record Reaches (width : ℕ) (start now : Option (List ℕ)) (r : Result Converted LineCause)
     (x : Converter) : Type 0 where
   pub after : Converted
   pub ran : r ≡ Ok after
   pub stands : HasConverted width start now after x
 
--- a line was given up: a beginning was written of the steps before it, or where the rules do not refuse it, of these and its own
+-- a line was given up: a beginning was written of the steps before it, or where the rules do not reject it, of these and its own
 pub record StopsIn (start now : Option (List ℕ)) (c : Converted) (r : Result Converted LineCause) :
     Type 0 where
   pub upto : Converted

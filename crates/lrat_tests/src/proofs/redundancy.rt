@@ -2,6 +2,7 @@
 use super::{BOTH, GROUP_FAILS, GROUP_MISSING, NO_CONFLICT, NOT_UNIT, Row, THREE};
 use test_streams::FOUR;
 
+/// RAT lines with and without hints for their candidates.
 pub static GROUPS: [Row; 2] = [
     (
         THREE,
@@ -46,6 +47,7 @@ pub static GROUPS: [Row; 2] = [
     ),
 ];
 
+/// RAT lines with repeated and opposite literals.
 pub static LITERALS: [Row; 6] = [
     (THREE, &[("4 1 1 0 -1 2 3 0", "accepted")]),
     (
@@ -76,6 +78,7 @@ pub static LITERALS: [Row; 6] = [
     ("1 -1 0 -1 2 0", &[("3 1 -2 0 -2 0", GROUP_MISSING)]),
 ];
 
+/// Proofs with RAT lines that refute a formula.
 pub static REFUTED: [Row; 3] = [
     (
         FOUR,

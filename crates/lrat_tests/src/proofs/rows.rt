@@ -4,6 +4,7 @@ use super::{
 };
 use test_streams::FOUR;
 
+/// Lines that follow by their leading hints, or do not.
 pub static PROPAGATION: [Row; 7] = [
     (
         UNITS,
@@ -46,7 +47,7 @@ pub static PROPAGATION: [Row; 7] = [
     ("-2 2 0", &[("2 2 -2 0 1 0", "accepted")]),
 ];
 
-/// What a checker of lines of hints would refuse too, or would not: ids need not rise, and hints
+/// What a checker of lines of hints would reject too, or would not: ids need not rise, and hints
 /// may go on after the conflict.
 pub static LINES_OF_HINTS: [Row; 2] = [
     (FOUR, &[("9 1 0 1 2 0\n10 0 9 3 4 0\n", "refuted")]),
@@ -68,6 +69,7 @@ pub static LINES_OF_HINTS: [Row; 2] = [
 /// 2^28 is the greatest number of a variable, and its literals have no places.
 const PAIRS: &str = "1 268435456 0 1 -268435456 0 -1 268435456 0 -1 -268435456 0";
 
+/// Lines with large variables.
 pub static FAR_LITERALS: [Row; 6] = [
     (
         UNITS,
@@ -103,6 +105,7 @@ pub static FAR_LITERALS: [Row; 6] = [
     ),
 ];
 
+/// Lines with ids that are taken, unknown or large.
 pub static IDS: [Row; 2] = [
     (
         THREE,

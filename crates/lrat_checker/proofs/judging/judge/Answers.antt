@@ -27,4 +27,10 @@ returns-in-Open c =
     (open_at (among c.propagate.new.values)) (sym c.contains.ensures ∙ c.if-contains.false)
     c.in_ok-negate_alone.ensures
     (ap (λ x. ending_of x (among c.propagate.new.values)) (sym c.in-Open.is) ∙ c.in_ok-propagate.ensures.ending) in
-    record { ok = rw found c.check_groups.ensures.ok; taken = search rules; err = rw found c.check_groups.ensures.err }
+    record {
+      ok = rw found c.check_groups.ensures.ok;
+      taken = search rules;
+      err = rw found c.check_groups.ensures.err;
+      table = c.check_groups.ensures.table;
+      named = c.check_groups.ensures.named;
+    }
