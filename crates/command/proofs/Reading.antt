@@ -15,7 +15,7 @@ known : (remaining : Option (List ℕ)) (limit : ℕ) (before items : List ℕ) 
 known None limit before items e h l = tt
 known (Some xs) limit before items e h l = grind (arith, uncut limit xs)
 
--- what was read behind nothing is all that the reader had, if it is shorter than the limit
+-- what was read after nothing is all that the reader had, if it is shorter than the limit
 pub read_whole : {R : Type 0} (remaining : R → Option (List ℕ)) (from : R) (limited : Take R) (limit : ℕ) (before items : List ℕ)
     → take_inner limited ≡ from → take_limit limited ≡ limit → before ≡ [] → IfSome (take_remaining remaining limited) (λ xs. items ≡ before ++ xs)
     → length items < limit → IfSome (remaining from) (λ xs. items ≡ xs)

@@ -1,4 +1,4 @@
--- What the words of a call say. A word is its bytes; an option is what stands behind `options:`, as `--lrat FILE`.
+-- What the words of a call say. A word is its bytes; an option is what follows `options:`, as `--lrat FILE`.
 --     said_by options most words      the operands and the options, in their order; or a wrong word, and why
 use Rattle.std.specs.Prelude.{◌≡◌, ℕ, Bool, true, false, ◌&&◌, ◌||◌, ◌==◌, not, nat_le, nat_lt, if◌then◌else◌, List, [], ◌∷◌, ◌++◌, length, map, is_some, option_and_then, option_map, slice_index, Option, Some, None, Result, Ok, Err, IfOk, IsOk, string_bytes, codes}
 use Rattle.std.specs.List.{before_first, after_first, find, position_or_len}
@@ -36,18 +36,18 @@ pub data Wrong : Type 0 where
   needless_value : List ℕ → Wrong
   needless_operand : List ℕ → Wrong
 
--- what stands before the first such byte, or all of it
+-- what comes before the first such byte, or all of it
 abbrev pub before : ℕ → List ℕ → List ℕ
 before mark text = before_first (λ byte. byte == mark) text
 
--- what stands behind it, if it is there
+-- what follows it, if it is there
 abbrev pub behind : ℕ → List ℕ → Option (List ℕ)
 behind mark text =
     if nat_lt (position_or_len (λ byte. byte == mark) text) (length text)
     then Some (after_first (λ byte. byte == mark) text)
     else None
 
--- of an option's name, that a value's name stands behind its flag
+-- of an option's name, whether a value's name follows its flag
 abbrev pub has_value : List ℕ → Bool
 has_value option = is_some (behind 32 option)
 
@@ -55,7 +55,7 @@ has_value option = is_some (behind 32 option)
 abbrev pub is_either : List ℕ → List ℕ → List ℕ → Bool
 is_either one other flag = bytes_eq flag one || bytes_eq flag other
 
--- the option of a flag: one of all programs, or one whose flag stands before a blank, with a value's name behind it
+-- the option of a flag: one of all programs, or one whose flag comes before a blank, with a value's name after it
 abbrev pub option_of : List (List ℕ) → List ℕ → Option (List ℕ)
 option_of options flag =
     if is_either (codes "-h") (codes "--help") flag then Some (codes "--help")
@@ -92,7 +92,7 @@ abbrev pub with_choice : State → List ℕ → Option (List ℕ) → State
 with_choice s flag value =
     record s { choices = s.choices ++ (record { flag = flag; value = value }) ∷ [] }
 
--- a flag, which takes a value or takes none, with what stands behind its `=`
+-- a flag, which takes a value or takes none, with what follows its `=`
 abbrev pub with_flag : State → List ℕ → Bool → Option (List ℕ) → Result State Wrong
 with_flag s flag true None = Ok (record s { next = value_of flag })
 with_flag s flag true (Some value) = Ok (with_choice s flag (Some value))
@@ -113,7 +113,7 @@ with_option options s word = with_named s word (option_of options (before 61 wor
 abbrev pub is_option : List ℕ → Bool
 is_option word = (slice_index word 0 == 45) && not (bytes_eq word (codes "-"))
 
--- one word more: all words behind `--` are operands
+-- one word more: all words after `--` are operands
 abbrev pub after : List (List ℕ) → ℕ → State → Next → List ℕ → Result State Wrong
 after options most s (value_of flag) word = Ok (with_choice (record s { next = any_word }) flag (Some word))
 after options most s operand_word word = with_operand most s word
@@ -142,7 +142,7 @@ start = record { next = any_word; operands = []; choices = [] }
 abbrev pub said_by : List (List ℕ) → ℕ → List (List ℕ) → Result State Wrong
 said_by options most words = said_after options most (Ok start) words
 
--- what the program's values stand for
+-- what the program's values denote
 abbrev pub names_of : List Entry → List (List ℕ)
 names_of options = map (λ option. option.name.now) options
 
@@ -170,7 +170,7 @@ state_of reading = record {
   choices = choices_of reading.call;
 }
 
--- an example is wanted of nothing beside it
+-- an example allows nothing beside it
 abbrev pub IsExampleAlone : Call → Type 0
 IsExampleAlone call =
     is_given (choices_of call) (codes "--example") ≡ true

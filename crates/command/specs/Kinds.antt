@@ -25,7 +25,7 @@ is_binary_proof bytes =
 abbrev pub is_digit : ℕ → Bool
 is_digit byte = nat_le 48 byte && nat_le byte 57
 
--- what stands behind comments, which begin with `c` and end with an LF, and behind a line that goes on here
+-- what follows comments, which begin with `c` and end with an LF, and after a line that continues here
 abbrev pub behind_comments : Bool → List ℕ → List ℕ
 behind_comments in_line [] = []
 behind_comments true (byte ∷ bytes) = behind_comments (not (byte == 10)) bytes
@@ -38,7 +38,7 @@ is_xor_clause (byte ∷ []) = false
 is_xor_clause (byte ∷ next ∷ bytes) =
     (byte == 120) && ((next == 32) || (next == 45) || is_digit next)
 
--- it is the first line, or the first one behind a header
+-- it is the first line, or the first one after a header
 abbrev pub is_xor_formula : List ℕ → Bool
 is_xor_formula text =
     if begins text (codes "p cnf") then is_xor_clause (behind_comments true text) else is_xor_clause text
@@ -90,7 +90,7 @@ is_lrat_line parts.Number (byte ∷ bytes) =
 abbrev pub is_lrat_text : List ℕ → Bool
 is_lrat_text text = not (begins text (48 ∷ [])) && is_lrat_line parts.Id text
 
--- a text by its lines behind the first comments
+-- a text by its lines after the first comments
 unfoldable pub kind_of_lines : List ℕ → Option Kind
 kind_of_lines text =
     if is_xor_formula text then Some XorFormula
@@ -103,7 +103,7 @@ kind_of_lines text =
     else if is_lrat_text text then Some LratText
     else None
 
--- of the marks that are met the first one counts
+-- of the marks that occur the first one counts
 abbrev pub kind_by : List ℕ → Option Kind
 kind_by bytes =
     if begins bytes (31 ∷ 139 ∷ []) then Some Gzip

@@ -18,5 +18,5 @@ abbrev pub is_among : List ℕ → WrittenFiles → Bool
 is_among name files = list_any (λ taken. bytes_eq taken.now name) files.names.items
 
 -- whether one of the inputs has this name
-abbrev pub is_read : List ℕ → List (Bor Input) → Bool
+abbrev pub is_read : {F I : Type 0} → List ℕ → List (Bor (Input F I)) → Bool
 is_read name inputs = list_any (λ input. bytes_eq input.now.name.now name) inputs

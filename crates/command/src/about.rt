@@ -5,7 +5,7 @@ ghost use Rattle.command.specs.Calls.{before, behind, has_value};
 use std::fmt;
 use std::fmt::{Display, Formatter};
 
-/// A name, as of an operand, an option or an exit status, and what is said of it.
+/// A name, as of an operand, an option or an exit status, with its text in `--help`.
 #[derive(Clone, Copy)]
 pub struct Entry<'a> {
     pub name: &'a str,
@@ -13,14 +13,14 @@ pub struct Entry<'a> {
 }
 
 impl<'a> Entry<'a> {
-    /// Of an option's name, the flag: a value's name may stand behind it.
+    /// Returns the flag of an option, without the name of its value.
     pub(crate) fn flag(&self) -> &'a str
         ensures { result.now ≡ before 32 self.now.name.now }
     {
         cut_at(self.name, ' ').0
     }
 
-    /// Whether an option takes a value.
+    /// Returns whether an option takes a value.
     pub(crate) fn has_value(&self) -> bool
         ensures { result ≡ has_value self.now.name.now }
     {
@@ -28,7 +28,8 @@ impl<'a> Entry<'a> {
     }
 }
 
-/// What stands before a character of ASCII, and if it is there, what stands behind the first one.
+/// Returns the text before the first `mark`, an ASCII character, and the text after it, if it
+/// occurs.
 #[tactic(auto, using(std::proofs::lemmas::Str::Pattern::split_once_first))]
 pub(crate) fn cut_at(text: &str, mark: char) -> (&str, Option<&str>)
     requires { mark < 128 }
@@ -41,23 +42,23 @@ pub(crate) fn cut_at(text: &str, mark: char) -> (&str, Option<&str>)
     }
 }
 
-/// What `--help` says of a program, and how the words of its call are read. Its man page and its
-/// completions are made from that.
+/// The text of a program's `--help`, by which the words of its call are read, too. Its man page and
+/// its completions are made from it.
 #[derive(Clone, Copy)]
 pub struct About<'a> {
-    /// Its name, and what may stand behind it.
+    /// Its name, and the arguments that may follow.
     pub call: &'a str,
     /// What it does, as a sentence.
     pub does: &'a str,
     /// The files that it reads and writes, in their order.
     pub operands: &'a [Entry<'a>],
-    /// The options that it has beside `--help` and `--version`.
+    /// Its options, except `--help` and `--version`.
     pub options: &'a [Entry<'a>],
-    /// What the exit status 0 says.
+    /// What the exit status 0 means.
     pub verified: &'a str,
-    /// What the exit status 3 says.
+    /// What the exit status 3 means.
     pub open: &'a str,
-    /// The variables of the environment that it looks at.
+    /// The environment variables that it reads.
     pub environment: &'a [Entry<'a>],
     /// Calls, each with what it does.
     pub examples: &'a [Entry<'a>],
@@ -120,7 +121,7 @@ impl Display for About<'_> {
 }
 
 impl<'a> About<'a> {
-    /// The program's name.
+    /// Returns the program's name.
     pub(crate) fn program(&self) -> &'a str {
         cut_at(self.call, ' ').0
     }
@@ -138,6 +139,7 @@ impl<'a> About<'a> {
     }
 }
 
+/// Writes each entry on a line: its name, and its text in a column.
 fn write_entries<F: fmt::Write>(f: &mut Formatter<F>, entries: &[Entry<'_>]) -> fmt::Result {
     for entry in entries {
         write!(f, "{entry}")?;
@@ -145,7 +147,7 @@ fn write_entries<F: fmt::Write>(f: &mut Formatter<F>, entries: &[Entry<'_>]) -> 
     Ok(())
 }
 
-/// Each call on a line, below what it does.
+/// Writes each call on a line, below what it does.
 fn write_examples<F: fmt::Write>(f: &mut Formatter<F>, examples: &[Entry<'_>]) -> fmt::Result {
     for example in examples {
         let (call, does) = (example.name, example.text);

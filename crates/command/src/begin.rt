@@ -13,17 +13,19 @@ use crate::status::{NOT_RUN, help, version};
 use crate::streams::take_closed;
 use std::env::{Env, FillError};
 use std::fmt::Display;
+use std::io::Eprint;
 use std::process::ExitCode;
 use std::{env, str};
 
-/// How many bytes of a word are looked at, where one of a call is no text.
+/// How many bytes of a word are read if it is not UTF-8.
 const WORD_LENGTH: usize = 4096;
 
-/// Reads the words of a call, as the program says them of itself.
+/// Returns the call, read by the program's own options. `--example` must be alone.
 ///
-/// An Err is the exit status of a call that ends here: `--help` and `--version` are answered, and
-/// of words that can't be read a line on standard error says which one is wrong. `--example` stands
-/// alone.
+/// # Errors
+///
+/// The exit status of a call that ends here: after `--help` and `--version`, or after a line on
+/// standard error that names the wrong word.
 fn start<'a>(rt: &HostRuntime, about: &'a About<'a>) -> Result<Call<'a>, u8>
     ensures ended { IfErr result IsEnd }
     ensures example { IfOk result IsExampleAlone }
@@ -55,9 +57,8 @@ fn start<'a>(rt: &HostRuntime, about: &'a About<'a>) -> Result<Call<'a>, u8>
     Ok(call)
 }
 
-/// Runs a program: reads its call, and does what that asks for. Either answer is the exit status;
-/// an Err is that of a call that ends early. No file that it opens is standard output or standard
-/// error.
+/// Runs a program: reads its call, passes it to `run`, and returns the exit status. No file that
+/// `run` opens is standard output or standard error.
 pub fn run_program<F: FnOnce(&Call<'_>) -> Result<u8, u8>>(
     rt: &HostRuntime,
     about: &About<'_>,
@@ -75,7 +76,7 @@ pub fn run_program<F: FnOnce(&Call<'_>) -> Result<u8, u8>>(
     }
 }
 
-/// The exit code that an answer is, on either way.
+/// Returns the exit code of a status, `Ok` or `Err`.
 fn exit_code_of(answer: Result<u8, u8>) -> ExitCode
     ensures { exit_status result ≡ either answer }
 {
@@ -84,8 +85,8 @@ fn exit_code_of(answer: Result<u8, u8>) -> ExitCode
     }
 }
 
-/// Says on standard error why a call can't be run, and how the program is called.
-pub fn misused<D: Display + Drop>(rt: &HostRuntime, about: &About<'_>, why: D) -> u8
+/// Prints to standard error why a call can't be run, and the usage. Returns the exit status 2.
+pub fn misused<R: Eprint, D: Display + Drop>(rt: &R, about: &About<'_>, why: D) -> u8
     ensures { result ≡ NOT_RUN }
 {
     let (call, program) = (about.call, about.program());
@@ -95,9 +96,9 @@ pub fn misused<D: Display + Drop>(rt: &HostRuntime, about: &About<'_>, why: D) -
     NOT_RUN
 }
 
-/// Says on standard error which file is not named, where this many are, and how the program is
-/// called.
-pub fn unnamed(rt: &HostRuntime, about: &About<'_>, count: usize) -> u8
+/// Prints to standard error which file is missing of a call that names `count`, and the usage.
+/// Returns the exit status 2.
+pub fn unnamed<R: Eprint>(rt: &R, about: &About<'_>, count: usize) -> u8
     ensures { result ≡ NOT_RUN }
 {
     match about.operands.get(count) {
@@ -109,10 +110,13 @@ pub fn unnamed(rt: &HostRuntime, about: &About<'_>, count: usize) -> u8
     }
 }
 
-/// The names of the two files that a call names, and no more. An Err is the exit status of a call
-/// that names one or none; standard error says which one is missing.
-pub fn input_names<'c>(
-    rt: &HostRuntime,
+/// Returns the names of the two files of a call.
+///
+/// # Errors
+///
+/// The exit status 2 if the call names one file or none; standard error has the missing one.
+pub fn input_names<'c, R: Eprint>(
+    rt: &R,
     about: &About<'_>,
     call: &'c Call<'_>,
 ) -> Result<InputNames<'c>, u8>
@@ -130,16 +134,19 @@ pub fn input_names<'c>(
     }
 }
 
-/// Of a program that reads lines of LRAT: how the ids of binary ones are written.
+/// The option for the encoding of ids in binary LRAT.
 pub const IDS: Entry<'static> = Entry {
     name: "--ids WAY",
     text: "encoding of ids in a binary proof, plain or doubled (default: detected)",
 };
 
-/// How ids stand in binary lines, as `--ids` says it, where it does: one of two ways. An Err is the
-/// exit status where it says another word; standard error says which ones there are.
-pub fn ids_of<T: Copy>(
-    rt: &HostRuntime,
+/// Returns the encoding of ids in binary lines that `--ids` names, or `None` without `--ids`.
+///
+/// # Errors
+///
+/// The exit status 2 if the value is another word.
+pub fn ids_of<R: Eprint, T: Copy>(
+    rt: &R,
     about: &About<'_>,
     call: &Call<'_>,
     plain: T,
@@ -158,7 +165,7 @@ pub fn ids_of<T: Copy>(
     }
 }
 
-/// Says on standard error which words of the call are no text.
+/// Prints to standard error each word of the call that is not UTF-8.
 fn say_unreadable(rt: &HostRuntime) {
     let mut word = [0; WORD_LENGTH];
     for place in 1..usize::MAX {

@@ -8,14 +8,14 @@ use std::alloc::Global;
 use std::env::Args;
 use thiserror::Error;
 
-/// What the words of a call say, in their order.
+/// The options and operands of a call, in their order.
 #[derive(Drop)]
 pub struct Call<'a> {
     pub operands: Vec<String>,
     pub settings: Vec<Setting<'a>>,
 }
 
-/// An option that stands in a call, and its value, if it takes one.
+/// An option of a call, and its value, if it takes one.
 #[derive(Drop)]
 pub struct Setting<'a> {
     pub flag: &'a str,
@@ -40,14 +40,14 @@ pub enum Misuse<'a> {
 }
 
 impl<'a> Call<'a> {
-    /// Whether an option stands in the call.
+    /// Returns whether the call has an option.
     pub fn has(&self, flag: &str) -> bool
         ensures { result ≡ is_given (choices_of self.now) flag.now }
     {
         self.setting(flag).is_some()
     }
 
-    /// The value of an option, where it stands in the call and has one.
+    /// Returns the value of an option, or `None` if the call does not have it or it takes none.
     pub fn value(&self, flag: &str) -> Option<&str>
         ensures { option_map (λ value. value.now) result
             ≡ value_given (choices_of self.now) flag.now }
@@ -58,8 +58,8 @@ impl<'a> Call<'a> {
         }
     }
 
-    /// What the value of an option stands for, by the words that it may be, or that it has none.
-    /// None: its value is another word.
+    /// Returns what the value of an option means, by the words that it may be; `Some(None)` without
+    /// a value, and `None` if it is another word.
     pub fn choice<T: Copy>(&self, flag: &str, words: &[(&str, T)]) -> Option<Option<T>>
         ensures { result ≡ meant (λ word. word.now) words.now
             (value_given (choices_of self.now) flag.now) }
@@ -75,7 +75,7 @@ impl<'a> Call<'a> {
         None
     }
 
-    /// Whether one option without a value stands in the call, and nothing else.
+    /// Returns whether the call is one option without a value.
     pub fn is_one_word(&self) -> bool
         ensures { result ≡ is_one_flag (operands_of self.now) (choices_of self.now) }
     {
@@ -95,18 +95,18 @@ impl<'a> Call<'a> {
     }
 }
 
-/// What a word may be.
+/// What the next word may be.
 #[derive(Clone, Copy)]
 enum Awaited<'a> {
     /// An option or an operand.
     Any,
     /// The value of this option.
     Value(&'a str),
-    /// An operand: all words behind `--` are.
+    /// An operand, as all words after `--` are.
     Operand,
 }
 
-/// What was read of a call.
+/// The part of a call that was read.
 #[derive(Drop)]
 struct Reading<'a> {
     options: &'a [Entry<'a>],
@@ -114,9 +114,13 @@ struct Reading<'a> {
     call: Call<'a>,
 }
 
-/// Reads the words behind a program's name: options, those with a value as `--flag VALUE` or
-/// `--flag=VALUE`, and up to this many operands, in any order. All words behind `--` are operands,
-/// and so is `-`. The options of all programs are read too, also as `-h` and `-V`.
+/// Returns the call that the words after a program's name make: options, those with a value as
+/// `--flag VALUE` or `--flag=VALUE`, and up to `most` operands, in any order. All words after `--`
+/// are operands, and so is `-`. `-h` and `-V` are `--help` and `--version`.
+///
+/// # Errors
+///
+/// The first word that is wrong, and why; or `OutOfMemory`.
 #[tactic(auto, unfolding(crate::specs::Calls::said_after))]
 pub fn read_words<'a>(
     alloc: Global,
@@ -143,7 +147,7 @@ pub fn read_words<'a>(
 }
 
 impl<'a> Reading<'a> {
-    /// There is no word more.
+    /// Returns the call, after its last word.
     fn finish(self) -> Result<Call<'a>, Misuse<'a>>
         ensures { let said = at_end (state_of self.entry) (state_of self.entry).next in
             MatchResult result (IsSaid said) (IsOrNoMemory said) }
@@ -154,7 +158,7 @@ impl<'a> Reading<'a> {
         }
     }
 
-    /// One word more.
+    /// Takes the next word.
     fn add(&mut self, alloc: Global, most: usize, word: String) -> Result<(), Misuse<'a>>
         ensures said { let said = after (names_of self.old.options.now) most (state_of self.old)
             (state_of self.old).next (string_bytes word) in
@@ -179,6 +183,7 @@ impl<'a> Reading<'a> {
         self.add_operand(most, word)
     }
 
+    /// Takes an operand; `most` are allowed.
     fn add_operand(&mut self, most: usize, word: String) -> Result<(), Misuse<'a>>
         ensures said { let said = with_operand most (state_of self.old) (string_bytes word) in
             MatchResult result (λ _. said ≡ Ok (state_of self.new)) (IsOrNoMemory said) }
@@ -193,6 +198,7 @@ impl<'a> Reading<'a> {
         }
     }
 
+    /// Takes an option, perhaps with its value.
     fn add_option(&mut self, alloc: Global, word: String) -> Result<(), Misuse<'a>>
         ensures said { let said = with_option (names_of self.old.options.now) (state_of self.old)
             (string_bytes word) in
@@ -221,6 +227,7 @@ impl<'a> Reading<'a> {
         }
     }
 
+    /// Adds an option with its value to the call.
     fn set(&mut self, flag: &'a str, value: Option<String>) -> Result<(), Misuse<'a>>
         ensures said { let said = with_choice (state_of self.old) flag.now
             (option_map string_bytes value) in
@@ -234,7 +241,7 @@ impl<'a> Reading<'a> {
     }
 }
 
-/// The option of this flag: one of all programs, or one of these.
+/// Returns the option of this flag: one of all programs, or one of these.
 fn find_option<'a>(options: &[Entry<'a>], flag: &str) -> Option<Entry<'a>>
     ensures { option_map (λ option. option.name.now) result
         ≡ option_of (names_of options.now) flag.now }

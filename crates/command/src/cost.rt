@@ -1,18 +1,20 @@
-//! What a run cost.
+//! The time and the memory of a run.
 use crate::about::Entry;
 use crate::call::Call;
+use crate::system::System;
 use std::alloc::AllocError;
 use std::fmt::Display;
 use std::fs;
+use std::rt::Clock;
 use std::time::Instant;
 
-/// Of a program that counts: it says what.
+/// The option that prints statistics.
 pub const STATS: Entry<'static> = Entry {
     name: "--stats",
     text: "print statistics to standard error at the end, as lines c NAME NUMBER",
 };
 
-/// The same for other programs to read.
+/// The option that prints them as JSON.
 pub const JSON: Entry<'static> = Entry {
     name: "--json",
     text: "print statistics to standard error at the end, as one line of JSON",
@@ -56,15 +58,15 @@ impl StatsForm {
     }
 }
 
-/// When a run began, if the clock tells that.
+/// When a run began, if the clock reports it.
 #[derive(Clone, Copy)]
 pub struct Cost {
     began: Option<Instant>,
 }
 
 impl Cost {
-    /// A run begins now.
-    pub fn from_now(rt: &HostRuntime) -> Cost {
+    /// Returns the cost of a run that begins now.
+    pub fn from_now<C: Clock>(rt: &C) -> Cost {
         Cost {
             began: Instant::now(rt).ok(),
         }
@@ -73,7 +75,7 @@ impl Cost {
     /// Prints these counts to standard error, and then how many seconds the run took so far and how
     /// many kilobytes of memory it had at most, each if the system reports it. Nothing is printed
     /// if there is no memory for the text.
-    pub fn say(self, rt: &HostRuntime, form: StatsForm, counts: &[(&str, u64)]) {
+    pub fn say<S: System>(self, rt: &S, form: StatsForm, counts: &[(&str, u64)]) {
         let Ok(figures) = self.figures(rt, form, counts) else {
             return;
         };
@@ -83,9 +85,9 @@ impl Cost {
         };
     }
 
-    fn figures(
+    fn figures<S: System>(
         self,
-        rt: &HostRuntime,
+        rt: &S,
         form: StatsForm,
         counts: &[(&str, u64)],
     ) -> Result<String, AllocError> {
@@ -100,14 +102,14 @@ impl Cost {
             let seconds = format!(in rt.alloc(); "{seconds}.{millis:03}")?;
             form.add(&mut figures, "seconds", &seconds)?;
         }
-        if let Some(most) = kilobytes(rt, "/proc/self/status", "VmHWM:") {
+        if let Some(most) = rt.peak_kilobytes() {
             form.add(&mut figures, "memory_kb", &most)?;
         }
         Ok(figures)
     }
 }
 
-/// The number behind a name, in a file in which the system tells kilobytes.
+/// Returns the number after a name, in a file in which the system reports kilobytes.
 pub(crate) fn kilobytes(rt: &HostRuntime, file: &str, name: &str) -> Option<u64> {
     let told = fs::read_to_string(rt, file).ok()?;
     let line = told.as_str().lines().find(|line| line.starts_with(name))?;

@@ -1,26 +1,30 @@
-//! Files that are read, by their names: which one is opened or refused. What a clause can't say of
-//! a handle is believed by reading this file.
-ghost use Rattle.std.specs.Prelude.{◌≡◌, ◌⊎◌, ◌↔◌, IfOk, IfSome, IsNone, IsSome, IsTrue, codes, false};
-ghost use Rattle.command.specs.Inputs.{IsOpenedBy, is_standard_input};
+//! Files that are read, by their names: which are opened and which rejected. What no contract can
+//! state of a handle is believed by reading this file.
+ghost use Rattle.std.specs.Prelude.{◌≡◌, ◌↔◌, IfOk, IfSome, IsNone, IsSome, IsTrue, codes, false};
+ghost use Rattle.command.specs.Inputs.{IsOpenedBy, bytes_named, input_bytes_left, is_standard_input, source_bytes_left};
 
+use crate::system::System;
 use std::fmt::Display;
 use std::fs::{File, Metadata};
-use std::io::{Read, Stdin};
-use std::os::fd::AsFd;
+use std::io::{Eprint, Read, Stdin};
 use std::os::unix::fs::MetadataExt;
 use std::{fs, io};
 
-/// The name that stands for standard input.
+/// The name of standard input.
 pub(crate) const STANDARD_INPUT: &str = "-";
 
-/// What is read: a file that was opened by its name, or descriptor 0, from where it stands.
+/// What is read: a file that was opened by its name, or descriptor 0, from its current position.
 #[derive(Drop)]
-pub enum Source {
-    File(File),
-    StandardInput(Stdin),
+pub enum Source<F = File, I = Stdin> {
+    File(F),
+    StandardInput(I),
 }
 
-impl Read for Source {
+impl<F: Read, I: Read> Read for Source<F, I> {
+    ghost use Rattle.command.specs.Inputs.{source_bytes_left};
+
+    ghost remaining = { source_bytes_left F.remaining I.remaining };
+
     fn read(&mut self, buf: &mut [u8]) -> io::Result<usize> {
         match self {
             Source::File(file) => file.read(buf),
@@ -30,7 +34,7 @@ impl Read for Source {
 }
 
 impl Source {
-    /// What the system tells of it. Of standard input that is asked by a name of the system.
+    /// Returns what the host reports of it. Standard input is asked about by a name of the host.
     pub(crate) fn metadata(&self, rt: &HostRuntime) -> io::Result<Metadata> {
         match self {
             Source::File(file) => file.metadata(),
@@ -39,86 +43,102 @@ impl Source {
     }
 }
 
-/// What is open for reading, and the name that it was opened by.
+/// An open input, and the name by which it was opened.
 #[derive(Drop)]
-pub struct Input<'a> {
+pub struct Input<'a, F = File, I = Stdin> {
     pub name: &'a str,
-    pub file: Source,
+    pub file: Source<F, I>,
 }
 
-impl Input<'_> {
-    /// How many bytes there are of a regular file.
-    pub fn length(&self, rt: &HostRuntime) -> Option<u64> {
-        match self.file.metadata(rt) {
-            Ok(data) if data.is_file() => Some(data.len()),
-            _ => None,
+/// An open input of a system.
+pub type InputOf<'a, S> = Input<'a, <S as System>::File, <S as System>::Input>;
+
+impl<F: Read, I: Read> Input<'_, F, I> {
+    /// Returns the length of a regular file in bytes.
+    pub fn length<S: System<File = F, Input = I>>(&self, system: &S) -> Option<u64> {
+        match &self.file {
+            Source::File(file) => system.file_length(file),
+            Source::StandardInput(_) => system.input_length(),
         }
     }
 }
 
-/// Opens a file, or takes descriptor 0, if it is open.
-fn open_source(rt: &HostRuntime, name: &str) -> io::Result<Source>
-    ensures { IfOk result (λ source. IsTrue (is_standard_input source) ↔ (name.now ≡ codes "-")) }
+/// Returns the file that was opened, or standard input, if it is open.
+fn open_source<S: System>(system: &S, name: &str) -> io::Result<Source<S::File, S::Input>>
+    ensures named { IfOk result (λ source. IsTrue (is_standard_input source) ↔ (name.now ≡ codes "-")) }
+    ensures bytes { IfOk result (λ source. source_bytes_left S.File.remaining S.Input.remaining source
+        ≡ bytes_named (S.file_bytes system.now) (S.input_bytes system.now) name.now) }
 {
-    if name != STANDARD_INPUT {
-        return Ok(Source::File(File::open(rt, name)?));
+    if name == STANDARD_INPUT {
+        Ok(Source::StandardInput(system.standard_input()?))
+    } else {
+        Ok(Source::File(system.open_file(name)?))
     }
-    let stdin = rt.stdin();
-    let _open = stdin.as_fd().try_clone_to_owned()?;
-    Ok(Source::StandardInput(stdin))
 }
 
-/// Opens two files for reading; the name `-` stands for standard input, and can be one of them.
+/// Returns two files that are opened for reading; one of them may be `-`, standard input.
 ///
-/// Where one can't be opened, a line on standard error says so, and a second one why.
-pub fn open_inputs<'a>(
-    rt: &HostRuntime,
+/// Returns `None` if one can't be opened; then standard error names it, with the reason.
+pub fn open_inputs<'a, S: System>(
+    system: &S,
     first: &'a str,
     second: &'a str,
-) -> Option<(Input<'a>, Input<'a>)>
+) -> Option<(InputOf<'a, S>, InputOf<'a, S>)>
     ensures first { IfSome result (λ inputs. IsOpenedBy first.now inputs.0) }
     ensures second { IfSome result (λ inputs. IsOpenedBy second.now inputs.1) }
+    ensures first_bytes { IfSome result (λ inputs.
+        input_bytes_left S.File.remaining S.Input.remaining inputs.0
+        ≡ bytes_named (S.file_bytes system.now) (S.input_bytes system.now) first.now) }
+    ensures second_bytes { IfSome result (λ inputs.
+        input_bytes_left S.File.remaining S.Input.remaining inputs.1
+        ≡ bytes_named (S.file_bytes system.now) (S.input_bytes system.now) second.now) }
     ensures once { first.now ≡ codes "-" → second.now ≡ codes "-" → IsNone result }
 {
     if second != STANDARD_INPUT {
-        let first = open_input(rt, first)?;
-        return Some((first, open_input(rt, second)?));
+        let first = open_input(system, first)?;
+        return Some((first, open_input(system, second)?));
     }
     if first == STANDARD_INPUT {
-        let _ = eprintln!(rt; "- given twice: only one file can be standard input");
+        let _ = eprintln!(system; "- given twice: only one file can be standard input");
         return None;
     }
-    // Descriptor 0 is looked at first: were it closed, the next file that is opened would be it.
-    let second = open_input(rt, second)?;
-    Some((open_input(rt, first)?, second))
+    // Standard input first: if descriptor 0 is closed, the next file that is opened would get it.
+    let second = open_input(system, second)?;
+    Some((open_input(system, first)?, second))
 }
 
-fn open_input<'a>(rt: &HostRuntime, name: &'a str) -> Option<Input<'a>>
-    ensures { IfSome result (IsOpenedBy name.now) }
+/// Returns the open input, or prints why it can't be opened.
+fn open_input<'a, S: System>(system: &S, name: &'a str) -> Option<InputOf<'a, S>>
+    ensures named { IfSome result (IsOpenedBy name.now) }
+    ensures bytes { IfSome result (λ input.
+        input_bytes_left S.File.remaining S.Input.remaining input
+        ≡ bytes_named (S.file_bytes system.now) (S.input_bytes system.now) name.now) }
 {
-    match open_source(rt, name) {
-        Ok(file) => Some(Input { name, file }),
-        Err(fault) => refuse(rt, name, fault),
-    }
+    let file = match open_source(system, name) {
+        Ok(file) => file,
+        Err(fault) => return refuse(system, name, fault),
+    };
+    Some(Input { name, file })
 }
 
-/// Opens a file for reading by its name alone: `-` is no name of standard input here.
+/// Returns a file that is opened for reading by its name alone: `-` is not standard input here.
 ///
-/// Where it can't be opened, a line on standard error says so, and a second one why.
-pub fn open_file<'a>(rt: &HostRuntime, name: &'a str) -> Option<Input<'a>>
+/// Returns `None` if it can't be opened; then standard error names it, with the reason.
+pub fn open_file<'a, S: System>(system: &S, name: &'a str) -> Option<InputOf<'a, S>>
     ensures name { IfSome result (λ input. input.name.now ≡ name.now) }
     ensures file { IfSome result (λ input. is_standard_input input.file ≡ false) }
+    ensures bytes { IfSome result (λ input.
+        input_bytes_left S.File.remaining S.Input.remaining input
+        ≡ S.file_bytes system.now name.now) }
 {
-    match File::open(rt, name) {
-        Ok(file) => Some(Input {
-            name,
-            file: Source::File(file),
-        }),
-        Err(fault) => refuse(rt, name, fault),
-    }
+    let file = match system.open_file(name) {
+        Ok(file) => Source::File(file),
+        Err(fault) => return refuse(system, name, fault),
+    };
+    Some(Input { name, file })
 }
 
-/// Whether both are told, and are of one regular file.
+/// Returns whether both are the metadata of one regular file.
 pub(crate) fn is_one_file(one: &io::Result<Metadata>, other: &io::Result<Metadata>) -> bool {
     match (one, other) {
         (Ok(one), Ok(other)) => {
@@ -128,28 +148,16 @@ pub(crate) fn is_one_file(one: &io::Result<Metadata>, other: &io::Result<Metadat
     }
 }
 
-/// Opens a file once more that was read. None: it is standard input or no regular file, and its
-/// bytes come only once; or it can't be opened.
-pub fn open_again(rt: &HostRuntime, name: &str) -> Option<File>
-    ensures { name.now ≡ codes "-" → IsNone result }
-{
-    if name == "-" || !fs::metadata(rt, name).ok()?.is_file() {
-        return None;
-    }
-    File::open(rt, name).ok()
-}
-
-/// Warns on standard error where the header of a formula that was read whole lies: it says
-/// something else than what was read.
-pub fn warn_of_header<L: Display>(rt: &HostRuntime, name: &str, lie: &Option<L>) {
+/// Warns on standard error if the header of a formula does not match the clauses that were read.
+pub fn warn_of_header<R: Eprint, L: Display>(rt: &R, name: &str, lie: &Option<L>) {
     if let Some(header) = lie {
         let place = if name == "-" { "standard input" } else { name };
         let _ = eprintln!(rt; "warning: the header of {place} is {header}");
     }
 }
 
-/// Says that a file can't be opened, and on a second line why.
-pub(crate) fn refuse<T, D: Display + Drop>(rt: &HostRuntime, name: &str, why: D) -> Option<T>
+/// Prints that a file can't be opened, and on a second line why. Returns `None`.
+pub(crate) fn refuse<R: Eprint, T, D: Display + Drop>(rt: &R, name: &str, why: D) -> Option<T>
     ensures { IsNone result }
 {
     let _ = eprintln!(rt; "cannot open {name}");

@@ -1,5 +1,5 @@
-//! What stands where a formula is at fault.
-use crate::files::open_again;
+//! The word or the header at which a formula is at fault.
+use crate::system::System;
 use sat_formula::bytes::is_blank;
 use sat_formula::{DimacsFault, DimacsKind, Lit};
 use std::io::{BufRead, BufReader};
@@ -16,7 +16,7 @@ pub struct FaultLine {
 }
 
 impl FaultLine {
-    /// None: it is no fault of the text.
+    /// Returns the line of a fault, or `None` if it is no fault of the text.
     pub fn of(fault: &DimacsFault) -> Option<FaultLine> {
         match fault {
             DimacsFault::Malformed { line, kind } => Some(FaultLine {
@@ -27,9 +27,8 @@ impl FaultLine {
         }
     }
 
-    /// Says on standard error which word or which header is wrong. A regular file is opened again
-    /// for it.
-    pub(crate) fn say(self, rt: &HostRuntime, name: &str) {
+    /// Prints to standard error the wrong word or header. A regular file is opened again for it.
+    pub(crate) fn say<S: System>(self, rt: &S, name: &str) {
         let Some(line) = self.line_of(rt, name) else {
             return;
         };
@@ -43,8 +42,9 @@ impl FaultLine {
         }
     }
 
-    fn line_of(self, rt: &HostRuntime, name: &str) -> Option<Vec<u8>> {
-        let mut text = BufReader::new(rt.alloc(), open_again(rt, name)?).ok()?;
+    /// Returns the line, read again from the file.
+    fn line_of<S: System>(self, rt: &S, name: &str) -> Option<Vec<u8>> {
+        let mut text = BufReader::new(rt.alloc(), rt.open_again(name)?).ok()?;
         for _ in 1..self.line {
             text.skip_until(b'\n').ok()?;
         }
@@ -54,7 +54,8 @@ impl FaultLine {
     }
 }
 
-/// A header is wrong as a whole, and of numbers the first word that is none, or is too large.
+/// Returns the wrong part of a line: the whole of a header, or the first word that is no number or
+/// too large.
 fn guilty_part(line: &[u8], kind: DimacsKind) -> Option<&[u8]> {
     match kind {
         DimacsKind::BadNumber | DimacsKind::VarTooLarge => line
@@ -65,7 +66,7 @@ fn guilty_part(line: &[u8], kind: DimacsKind) -> Option<&[u8]> {
     }
 }
 
-/// Whether a word is a number that a clause may have.
+/// Returns whether a word is a number that a clause may have.
 fn is_number(word: &[u8]) -> bool {
     let digits = word.strip_prefix(b"-").unwrap_or(word);
     let number = match str::from_utf8(word) {

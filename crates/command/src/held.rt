@@ -3,18 +3,16 @@ ghost use Rattle.std.specs.Prelude.{◌≡◌, ◌≤◌, length, vec_len, IfOk,
 ghost use Rattle.std.specs.Io.{ReadsAtMost};
 ghost use Rattle.std.specs.Io.KnownBytes.{ReadConsumes};
 
-use crate::cost::kilobytes;
-use crate::files::Input;
 use std::alloc::Global;
 use std::io;
 use std::io::{ErrorKind, Read};
 
-/// Bytes that a reader gave, and that are given again. Once the last one is given they are let go.
+/// Bytes that were read, to be read again. They are freed once the last one is read.
 #[derive(Drop)]
 pub struct HeldBytes {
     alloc: Global,
     bytes: Vec<u8>,
-    /// This many of them were given.
+    /// How many of them were read again.
     given: usize,
     ghost within: { given ≤ vec_len bytes },
 }
@@ -22,11 +20,12 @@ pub struct HeldBytes {
 impl HeldBytes {
     ghost use Rattle.command.specs.Held.{held_in};
 
-    /// Reads all bytes of a reader, if at most `most` come. Where no more come than are expected,
-    /// memory is taken for no more.
+    /// Returns all bytes of a reader. Memory is reserved for `expected` bytes.
     ///
-    /// An error of the kind `FileTooLarge` says that more than `most` came, and one of the kind
-    /// `OutOfMemory` that there was no memory for them; any other one is that of a read.
+    /// # Errors
+    ///
+    /// `FileTooLarge` if there are more than `most`, `OutOfMemory` if there is no memory for them,
+    /// or the error of a read.
     pub fn of_reader<R: Read + Drop>(
         alloc: Global,
         from: R,
@@ -41,7 +40,7 @@ impl HeldBytes {
         if bytes.reserve_exact(expected).is_err() {
             return Err(io::Error::from(ErrorKind::OutOfMemory));
         }
-        // One byte more, so that what is cut off there is not taken for the whole.
+        // One byte more, so that a longer input is noticed.
         from.take(most.saturating_add(1)).read_to_end(&mut bytes)?;
         if bytes.len() as u64 > most {
             return Err(io::Error::from(ErrorKind::FileTooLarge));
@@ -51,25 +50,6 @@ impl HeldBytes {
             bytes,
             given: 0,
         })
-    }
-}
-
-/// Reads a file whole that is open. Of a regular one the memory taken is that of its length; any
-/// other one, which may never end, has at most half as many bytes as memory is free.
-pub fn hold_input(rt: &HostRuntime, input: Input<'_>) -> io::Result<HeldBytes> {
-    let (expected, most) = match input.length(rt) {
-        // One byte more, so that the end is found without growing.
-        Some(length) => ((length as usize).saturating_add(1), u64::MAX),
-        None => (0, half_of_memory(rt)),
-    };
-    HeldBytes::of_reader(rt.alloc(), input.file, expected, most)
-}
-
-/// Half of the bytes of memory that are free, or `u64::MAX` where the system does not say it.
-fn half_of_memory(rt: &HostRuntime) -> u64 {
-    match kilobytes(rt, "/proc/meminfo", "MemAvailable:") {
-        Some(free) => free.saturating_mul(512),
-        None => u64::MAX,
     }
 }
 

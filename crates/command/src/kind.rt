@@ -1,4 +1,4 @@
-//! What the first bytes of a file say that it is.
+//! The kind of a file, by its first bytes.
 ghost use Rattle.std.specs.Prelude.{◌≡◌, ◌&&◌, ◌||◌, false};
 ghost use Rattle.command.specs.Kinds.{behind_comments, ends_at_zero, is_aiger, is_binary_proof, is_drat_text, is_lrat_text, is_lrat_line, is_solver_output, is_xor_clause, kind_by, kind_of_lines, is_xor_formula};
 
@@ -9,23 +9,23 @@ pub enum Kind {
     Xz,
     Zstd,
     Bzip2,
-    /// UTF-8 with the mark that some editors write ahead.
+    /// UTF-8 with a byte order mark.
     ByteOrderMark,
     Aiger,
-    /// A step of binary LRAT or of binary DRAT, and a byte 0 as no text has one.
+    /// A step of binary LRAT or of binary DRAT, and a byte 0, which no text has.
     BinaryProof,
     Html,
     SmtLib,
     /// Lines that begin with `#`.
     HashComments,
-    /// The header of a formula, behind comments.
+    /// The header of a formula, after comments.
     Formula,
-    /// The same, or none, and then a line as cryptominisat has it.
+    /// A header or none, and then an XOR clause as cryptominisat writes it.
     XorFormula,
     CubeFormula,
     WeightedFormula,
     CardinalityFormula,
-    /// A status, or values.
+    /// A status line, or a line of values.
     SolverOutput,
     /// A line of DRAT text: a deletion, or numbers whose only 0 ends the line.
     DratText,
@@ -34,7 +34,7 @@ pub enum Kind {
 }
 
 impl Kind {
-    /// Its name, with an article.
+    /// Returns its name, with an article.
     pub fn name(self) -> &'static str {
         match self {
             Kind::Gzip => "a gzip file",
@@ -59,9 +59,9 @@ impl Kind {
     }
 }
 
-/// Which of these kinds a file is that begins with the bytes, if it is one.
+/// Returns the kind of a file that begins with these bytes, if it is one of these.
 ///
-/// A formula may begin as DRAT text or LRAT text, and is none.
+/// A formula may begin as DRAT text or LRAT text.
 pub fn kind_of(bytes: &[u8]) -> Option<Kind>
     ensures { result ≡ kind_by bytes.now }
 {
@@ -90,7 +90,7 @@ pub fn kind_of(bytes: &[u8]) -> Option<Kind>
     }
 }
 
-/// The same of a text, by the lines behind its first comments.
+/// Returns the kind of a text, by the lines after its first comments.
 #[tactic(auto, unfolding(crate::specs::Kinds::kind_of_lines))]
 fn kind_of_lines(text: &[u8]) -> Option<Kind>
     ensures { result ≡ kind_of_lines text.now }
@@ -116,20 +116,22 @@ fn kind_of_lines(text: &[u8]) -> Option<Kind>
     }
 }
 
+/// Returns whether the bytes begin as an AIGER circuit.
 fn is_aiger(bytes: &[u8]) -> bool
     ensures { result ≡ is_aiger bytes.now }
 {
     bytes.starts_with(b"aag ") || bytes.starts_with(b"aig ")
 }
 
+/// Returns whether the bytes begin as a binary proof.
 fn is_binary_proof(bytes: &[u8]) -> bool
     ensures { result ≡ is_binary_proof bytes.now }
 {
     (bytes.starts_with(b"a") || bytes.starts_with(b"d")) && bytes.contains(&0)
 }
 
-/// What stands behind the lines that begin with `c`, and behind the first one in any case, where
-/// one is begun.
+/// Returns what follows the lines that begin with `c`. If a line has begun (`in_line`), its rest is
+/// skipped too.
 fn behind_comments(bytes: &[u8], in_line: bool) -> &[u8]
     ensures { result.now ≡ behind_comments in_line bytes.now }
 {
@@ -146,7 +148,7 @@ fn behind_comments(bytes: &[u8], in_line: bool) -> &[u8]
     &[]
 }
 
-/// Whether the first line is such a clause, or a header and the next line is.
+/// Returns whether the first line is an XOR clause, or a header and the next line is one.
 fn is_xor_formula(text: &[u8]) -> bool
     ensures { result ≡ is_xor_formula text.now }
 {
@@ -158,6 +160,7 @@ fn is_xor_formula(text: &[u8]) -> bool
     is_xor_clause(first)
 }
 
+/// Returns whether the text begins with an XOR clause.
 fn is_xor_clause(text: &[u8]) -> bool
     ensures { result ≡ is_xor_clause text.now }
 {
@@ -167,19 +170,21 @@ fn is_xor_clause(text: &[u8]) -> bool
     }
 }
 
+/// Returns whether the text begins with a status or with values.
 fn is_solver_output(text: &[u8]) -> bool
     ensures { result ≡ is_solver_output text.now }
 {
     text.starts_with(b"s ") || text.starts_with(b"v ")
 }
 
+/// Returns whether the first line is one of DRAT text.
 fn is_drat_text(bytes: &[u8]) -> bool
     ensures { result ≡ is_drat_text bytes.now }
 {
     bytes.starts_with(b"d ") || ends_at_zero(bytes)
 }
 
-/// What stands between the last blank and the next byte.
+/// What there is between the last blank and the next byte.
 #[derive(Clone, Copy)]
 enum Word {
     Nothing,
@@ -187,7 +192,7 @@ enum Word {
     Number,
 }
 
-/// Whether the first line is made of numbers, of which the last one and no other is 0.
+/// Returns whether the first line is made of numbers, of which only the last one is 0.
 fn ends_at_zero(bytes: &[u8]) -> bool
     ensures { result ≡ ends_at_zero Word.Nothing bytes.now }
 {
@@ -204,25 +209,26 @@ fn ends_at_zero(bytes: &[u8]) -> bool
     false
 }
 
-/// Which part of a line of LRAT is read.
+/// The part of a line of LRAT that is read.
 #[derive(Clone, Copy)]
 enum Part {
     Id,
-    /// Behind the id.
+    /// After the id.
     First,
     Nothing,
     Zero,
     Number,
 }
 
+/// Returns whether the first line is one of LRAT text.
 fn is_lrat_text(text: &[u8]) -> bool
     ensures { result ≡ is_lrat_text text.now }
 {
     !text.starts_with(b"0") && is_lrat_line(text)
 }
 
-/// Whether the first line is a number and a deletion, or a number, literals up to 0 and others up
-/// to a 0 at its end.
+/// Returns whether the first line is a number and a deletion, or a number, literals up to 0 and
+/// others up to a 0 at its end.
 fn is_lrat_line(bytes: &[u8]) -> bool
     ensures { result ≡ is_lrat_line Part.Id bytes.now }
 {

@@ -1,4 +1,4 @@
-//! What a program does around its one library call: it opens files, and says why it can't go on.
+//! What a program does around its one library call: the command line, files, messages, statuses.
 #![tactic(auto)]
 
 mod about;
@@ -13,6 +13,7 @@ mod kind;
 mod places;
 mod status;
 mod streams;
+mod system;
 mod told;
 mod written;
 
@@ -21,7 +22,7 @@ pub use begin::{IDS, ids_of, input_names, misused, run_program, unnamed};
 pub use call::{Call, Misuse, Setting, read_words};
 pub use cost::{Cost, JSON, STATS, StatsForm};
 pub use example::{EXAMPLE, EXAMPLE_FORMULA, EXAMPLE_LRAT};
-pub use files::{Input, Source, open_again, open_file, open_inputs, warn_of_header};
+pub use files::{Input, InputOf, Source, open_file, open_inputs, warn_of_header};
 pub use guilty::FaultLine;
 pub use held::HeldBytes;
 pub use kind::{Kind, kind_of};
@@ -29,5 +30,6 @@ pub use places::{
     FaultPlace, InputNames, hold_file, open_and_hold, say_cause, say_end, say_fault, say_missing,
 };
 pub use status::{FAILED, NOT_RUN};
+pub use system::System;
 pub use told::{QUIET, RUST_LOG, VERBOSE, progress_of};
 pub use written::{OutputAfterFiles, WrittenFiles};

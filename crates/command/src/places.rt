@@ -1,18 +1,20 @@
-//! What is said of a file that could not be read as what it should be.
-ghost use Rattle.std.specs.Prelude.{◌≡◌, ◌⊎◌, IfErr, IfOk};
-ghost use Rattle.command.specs.Inputs.{IsOpenedBy};
+//! Messages about the file in which a fault is.
+ghost use Rattle.std.specs.Prelude.{◌≡◌, ◌⊎◌, IfErr, IfOk, IfSome};
+ghost use Rattle.command.specs.Held.{held_in};
+ghost use Rattle.command.specs.Inputs.{IsOpenedBy, bytes_named, input_bytes_left};
 
-use crate::files::{Input, open_again, open_inputs, warn_of_header};
+use crate::files::{InputOf, open_inputs, warn_of_header};
 use crate::guilty::FaultLine;
-use crate::held::{HeldBytes, hold_input};
+use crate::held::HeldBytes;
 use crate::kind::{Kind, kind_of};
 use crate::status::{FAILED, NOT_RUN};
+use crate::system::System;
 use sat_formula::DimacsFault;
 use std::fmt::Display;
 use std::io;
-use std::io::{ErrorKind, Read};
+use std::io::{Eprint, ErrorKind, Read};
 
-/// How many bytes of such a file are looked at.
+/// How many bytes of a file are read to detect its kind.
 const HEAD: usize = 16_384;
 
 const TOO_LARGE: &str = "only a regular file may be larger than half of the free memory";
@@ -24,7 +26,7 @@ pub struct InputNames<'a> {
     pub other: &'a str,
 }
 
-/// In which file the fault of a run is.
+/// The file in which the fault of a run is.
 #[derive(Clone, Copy)]
 pub enum FaultPlace<'a> {
     /// On this line, if its text is at fault.
@@ -36,37 +38,37 @@ pub enum FaultPlace<'a> {
     /// A proof that may begin with those of LRAT.
     LratProof,
     Answer,
-    /// The clauses that are wanted behind a piece, by the name of their file; on this line, if
-    /// their text is at fault.
+    /// The target clauses of a piece, by the name of their file; on this line, if their text is at
+    /// fault.
     Wanted(&'a str, Option<FaultLine>),
     /// A file that is written, by its name.
     Output(Option<&'a str>),
-    /// In none of them, as where the verdict's line could not be written.
+    /// In none of them, for example if the verdict's line can't be written.
     Elsewhere,
 }
 
 impl<'a> FaultPlace<'a> {
-    /// Where a formula is at fault.
+    /// Returns the place of a formula's fault.
     pub fn in_formula(fault: &DimacsFault) -> FaultPlace<'a> {
         FaultPlace::Formula(FaultLine::of(fault))
     }
 
-    /// Where the wanted clauses are at fault.
+    /// Returns the place of a fault of the target clauses.
     pub fn in_wanted(name: &'a str, fault: &DimacsFault) -> FaultPlace<'a> {
         FaultPlace::Wanted(name, FaultLine::of(fault))
     }
 }
 
-/// Says on standard error why a run has no verdict, where it has none.
-pub fn say_cause<T, E: Display>(rt: &HostRuntime, outcome: &Result<T, E>) {
+/// Prints to standard error why a run has no verdict, if it has none.
+pub fn say_cause<R: Eprint, T, E: Display>(rt: &R, outcome: &Result<T, E>) {
     if let Err(fault) = outcome {
         let _ = eprintln!(rt; "{fault}");
     }
 }
 
-/// Says on standard error why a run has no verdict, and in which file that is.
-pub fn say_fault<D: Display>(
-    rt: &HostRuntime,
+/// Prints to standard error why a run has no verdict, and in which file the fault is.
+pub fn say_fault<S: System, D: Display>(
+    rt: &S,
     names: InputNames<'_>,
     fault: &D,
     place: FaultPlace<'_>,
@@ -86,10 +88,10 @@ pub fn say_fault<D: Display>(
     }
 }
 
-/// Says on standard error how a run ended: why it has no verdict, where it has none, and in which
-/// file that is; and what the formula's header lies about.
-pub fn say_end<T, E: Display, L: Display>(
-    rt: &HostRuntime,
+/// Prints to standard error why a run has no verdict and in which file the fault is, if it has
+/// none; and then a warning if the formula's header does not match.
+pub fn say_end<S: System, T, E: Display, L: Display>(
+    rt: &S,
     names: InputNames<'_>,
     outcome: &Result<T, E>,
     place: FaultPlace<'_>,
@@ -101,26 +103,57 @@ pub fn say_end<T, E: Display, L: Display>(
     warn_of_header(rt, names.cnf, lie);
 }
 
-/// Says on standard error which clause is missing of those that are wanted behind a piece.
-pub fn say_missing<M: Display>(rt: &HostRuntime, holds: &str, missing: &Option<M>) {
+/// Prints to standard error which target clause of a piece is missing, if one is.
+pub fn say_missing<R: Eprint, M: Display>(rt: &R, holds: &str, missing: &Option<M>) {
     if let Some(missing) = missing {
         let _ = eprintln!(rt; "{missing}");
         let _ = eprintln!(rt; "in {holds}");
     }
 }
 
-/// Reads a file of a run whole. An Err is the exit status where it can't be read; standard error
-/// says which fault that is, and that it is at this place, and of a file that is too large what may
-/// be larger.
-pub fn hold_file<D: Display + Drop, F: FnOnce(io::Error) -> D>(
-    rt: &HostRuntime,
+/// Returns the bytes of an open file. For a regular file its length is reserved; of any other,
+/// which may never end, at most half as many bytes are read as memory is free.
+///
+/// # Errors
+///
+/// As [`HeldBytes::of_reader`].
+fn hold_input<S: System>(system: &S, input: InputOf<'_, S>) -> io::Result<HeldBytes>
+    ensures { IfOk result (λ held. IfSome
+        (input_bytes_left S.File.remaining S.Input.remaining input.entry) (λ bytes. held_in held ≡ bytes)) }
+{
+    let (expected, most) = match input.length(system) {
+        // One byte more, so that the end is found without growth.
+        Some(length) => ((length as usize).saturating_add(1), u64::MAX),
+        None => (0, half_of_memory(system)),
+    };
+    HeldBytes::of_reader(system.alloc(), input.file, expected, most)
+}
+
+/// Returns half of the free memory in bytes, or `u64::MAX` if the system does not report it.
+fn half_of_memory<S: System>(system: &S) -> u64 {
+    match system.free_kilobytes() {
+        Some(free) => free.saturating_mul(512),
+        None => u64::MAX,
+    }
+}
+
+/// Returns the bytes of a file of a run.
+///
+/// # Errors
+///
+/// The exit status 1 if it can't be read; standard error has the fault, the file, and for a file
+/// that is too large which files may be larger.
+pub fn hold_file<S: System, D: Display + Drop, F: FnOnce(io::Error) -> D>(
+    rt: &S,
     names: InputNames<'_>,
-    file: Input<'_>,
+    file: InputOf<'_, S>,
     place: FaultPlace<'_>,
     fault_of: F,
 ) -> Result<HeldBytes, u8>
     requires { F.IsAlwaysCallable fault_of }
-    ensures { IfErr result (λ status. status ≡ FAILED) }
+    ensures err { IfErr result (λ status. status ≡ FAILED) }
+    ensures bytes { IfOk result (λ held. IfSome
+        (input_bytes_left S.File.remaining S.Input.remaining file.entry) (λ bytes. held_in held ≡ bytes)) }
 {
     match hold_input(rt, file) {
         Ok(held) => Ok(held),
@@ -135,28 +168,36 @@ pub fn hold_file<D: Display + Drop, F: FnOnce(io::Error) -> D>(
     }
 }
 
-/// Opens the two files of a run, and then reads the formula whole. An Err is the exit status where
-/// that fails; standard error says why.
-pub fn open_and_hold<'a, D: Display + Drop, F: FnOnce(io::Error) -> D>(
-    rt: &HostRuntime,
+/// Opens the two files of a run, and reads the formula whole. Returns its bytes and the other file.
+///
+/// # Errors
+///
+/// The exit status if that fails; standard error has the reason.
+pub fn open_and_hold<'a, S: System, D: Display + Drop, F: FnOnce(io::Error) -> D>(
+    rt: &S,
     names: InputNames<'a>,
     fault_of: F,
-) -> Result<(HeldBytes, Input<'a>), u8>
+) -> Result<(HeldBytes, InputOf<'a, S>), u8>
     requires { F.IsAlwaysCallable fault_of }
     ensures err { IfErr result (λ status. (status ≡ NOT_RUN) ⊎ (status ≡ FAILED)) }
+    ensures formula { IfOk result (λ opened. IfSome
+        (bytes_named (S.file_bytes rt.now) (S.input_bytes rt.now) names.entry.cnf.now)
+        (λ bytes. held_in opened.0 ≡ bytes)) }
     ensures other { IfOk result (λ opened. IsOpenedBy names.entry.other.now opened.1) }
+    ensures bytes { IfOk result (λ opened.
+        input_bytes_left S.File.remaining S.Input.remaining opened.1
+        ≡ bytes_named (S.file_bytes rt.now) (S.input_bytes rt.now) names.entry.other.now) }
 {
     let (cnf, other) = open_inputs(rt, names.cnf, names.other).ok_or(NOT_RUN)?;
     let cnf = hold_file(rt, names, cnf, FaultPlace::Formula(None), fault_of)?;
     Ok((cnf, other))
 }
 
-/// Says on standard error, after a fault of a formula, which file it is and what is wrong there,
-/// and asks whether the names of this file and of the other one that is read were exchanged, where
-/// either begins so.
+/// Prints to standard error, after a fault of a formula, which file it is and what is wrong there.
+/// If this file or the other one begins as the other kind, asks whether they were exchanged.
 ///
-/// Where it is a regular file that begins as one of a kind that is not read, that is said of it.
-fn say_formula(rt: &HostRuntime, name: &str, line: Option<FaultLine>, other: &str) {
+/// If it is a regular file that begins as another kind of file, the kind is printed.
+fn say_formula<S: System>(rt: &S, name: &str, line: Option<FaultLine>, other: &str) {
     let kind = match kind_of_file(rt, name) {
         Some(Kind::DratText | Kind::LratText | Kind::Formula) => None,
         kind => kind,
@@ -170,52 +211,53 @@ fn say_formula(rt: &HostRuntime, name: &str, line: Option<FaultLine>, other: &st
     }
 }
 
-/// Says on standard error, after a fault of an answer, which file it is.
-///
-/// Where it is a regular file that begins as one of a kind that is not read, that is said of it.
-fn say_answer(rt: &HostRuntime, name: &str) {
+/// Prints to standard error, after a fault of an answer, which file it is, or its kind, if it
+/// begins as another kind of file.
+fn say_answer<S: System>(rt: &S, name: &str) {
     match kind_of_file(rt, name) {
         Some(Kind::DratText | Kind::LratText | Kind::SolverOutput) => say_place(rt, name, None),
         kind => say_kind(rt, name, kind),
     }
 }
 
-/// Says on standard error, after a fault of a proof, which file it is.
-///
-/// Where it is a regular file that begins as one of a kind that is not read, that is said of it.
-fn say_proof(rt: &HostRuntime, name: &str) {
+/// Prints to standard error, after a fault of a proof, which file it is, or its kind, if it begins
+/// as another kind of file.
+fn say_proof<S: System>(rt: &S, name: &str) {
     say_kind(rt, name, kind_of_file(rt, name));
 }
 
-/// The same of an LRAT proof.
-fn say_lrat_proof(rt: &HostRuntime, name: &str) {
+/// The same for an LRAT proof.
+fn say_lrat_proof<S: System>(rt: &S, name: &str) {
     match kind_of_file(rt, name) {
         Some(Kind::LratText) => say_place(rt, name, None),
         kind => say_kind(rt, name, kind),
     }
 }
 
-/// The same of a DRAT proof, be it binary.
-fn say_drat_proof(rt: &HostRuntime, name: &str) {
+/// The same for a DRAT proof, perhaps binary.
+fn say_drat_proof<S: System>(rt: &S, name: &str) {
     match kind_of_file(rt, name) {
         Some(Kind::DratText | Kind::BinaryProof) => say_place(rt, name, None),
         kind => say_kind(rt, name, kind),
     }
 }
 
-/// Says of which kind a file is that is not the formula. If it begins as one, that is asked about.
-fn say_kind(rt: &HostRuntime, name: &str, kind: Option<Kind>) {
+/// Prints the kind of a file that is not the formula. If it begins as a formula, asks whether the
+/// arguments are in the wrong order.
+fn say_kind<S: System>(rt: &S, name: &str, kind: Option<Kind>) {
     say_place(rt, name, kind);
     if kind == Some(Kind::Formula) {
         ask_order(rt);
     }
 }
 
-fn ask_order(rt: &HostRuntime) {
+/// Asks whether the arguments are in the wrong order.
+fn ask_order<R: Eprint>(rt: &R) {
     let _ = eprintln!(rt; "arguments in the wrong order?");
 }
 
-fn say_place(rt: &HostRuntime, name: &str, kind: Option<Kind>) {
+/// Prints in which file a fault is, or which kind of file it begins as.
+fn say_place<R: Eprint>(rt: &R, name: &str, kind: Option<Kind>) {
     let _ = match kind {
         Some(kind) => {
             let kind = kind.name();
@@ -226,9 +268,9 @@ fn say_place(rt: &HostRuntime, name: &str, kind: Option<Kind>) {
     };
 }
 
-/// What the first bytes of a regular file say that it is. It is opened again for it.
-fn kind_of_file(rt: &HostRuntime, name: &str) -> Option<Kind> {
+/// Returns the kind that the first bytes of a regular file have, after opening it again.
+fn kind_of_file<S: System>(rt: &S, name: &str) -> Option<Kind> {
     let mut head = [0; HEAD];
-    let count = open_again(rt, name)?.read(&mut head).ok()?;
+    let count = rt.open_again(name)?.read(&mut head).ok()?;
     kind_of(&head[..count])
 }

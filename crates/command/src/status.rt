@@ -1,4 +1,4 @@
-//! Exit statuses, and what ends a call with one.
+//! Exit statuses, and the calls `--help` and `--version`.
 ghost use Rattle.std.specs.Prelude.{◌≡◌, ◌≢◌, ◌⊎◌, IfErr, OnOk};
 ghost use Rattle.std.specs.IoError.{error_kind};
 ghost use Rattle.std.specs.declared.io.ErrorKind.TheVariants.{BrokenPipe};
@@ -13,28 +13,26 @@ pub const FAILED: u8 = 1;
 /// The exit status of a call that can't be run.
 pub const NOT_RUN: u8 = 2;
 
-/// The version of all programs, and that of the Rust crate whose rules the checker of proof bytes
-/// has.
+/// The version of all programs, and that of the Rust crate whose rules `varisat_check` has.
 const VERSION: &str = "0.3.0 (varisat-checker 0.2.2)";
 
-/// Says on standard output what a program is. That was asked for, so the status is 0, or 1 if it
-/// can't be written. Where nobody reads on, as behind `head`, it is 0.
+/// Prints a program's help. Returns the exit status: 0, also if the reader closed the pipe, or 1 if
+/// it can't be written.
 pub fn help(rt: &HostRuntime, about: &About<'_>) -> u8
     ensures { (result ≡ 0) ⊎ (result ≡ FAILED) }
 {
     status_of(rt, print!(rt; "{about}"))
 }
 
-/// Says on standard output of which version a program of this name is: the status is 0, or 1 if
-/// that can't be written.
+/// Prints the version of the program of this name. Returns the exit status, as `help` does.
 pub fn version(rt: &HostRuntime, name: &str) -> u8
     ensures { (result ≡ 0) ⊎ (result ≡ FAILED) }
 {
     status_of(rt, println!(rt; "{name} {VERSION}"))
 }
 
-/// The status of a call that only writes. A fault is said on standard error, unless it is that
-/// nobody reads on.
+/// Returns the status of a call that only writes. A fault is printed to standard error, except for
+/// a closed pipe.
 fn status_of(rt: &HostRuntime, written: io::Result<()>) -> u8
     ensures written { OnOk written (result ≡ 0) }
     ensures unread { IfErr written (λ fault. error_kind fault ≡ BrokenPipe → result ≡ 0) }

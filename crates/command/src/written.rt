@@ -1,5 +1,5 @@
-//! Files that are written: each under another name, until it is whole. What a clause can't say of a
-//! handle is believed by reading this file.
+//! Files that are written: each under another name, until it is whole. What no contract can state
+//! of a handle is believed by reading this file.
 ghost use Rattle.std.specs.Prelude.{◌≡◌, ◌∷◌, ◌++◌, [], true, ◌⊎◌, IfErr, IfOk, IfSome, IsErr, IsNone, IsSome, codes, is_some, option_map, option_to_list};
 ghost use Rattle.command.specs.Written.{is_among, is_read, names_of};
 
@@ -10,7 +10,7 @@ use std::io::{BufWriter, Write};
 use std::os::unix::fs::MetadataExt;
 use std::{fs, io, process};
 
-/// What stands behind the name of a file that is not whole, and a number.
+/// What is appended, after a number, to the name of a file that is not whole.
 const UNFINISHED: &str = ".new";
 
 /// How many numbers are tried for a name that no file has.
@@ -20,10 +20,9 @@ const ONE_FILE: &str = "both outputs are one file";
 
 /// The files that a call writes.
 ///
-/// A regular file, and one that is not there yet, is written as a new file, under a name that no
-/// other file has, and gets its own name once all are whole. What stood there before stays until
-/// then. Where that does not come, the new file is taken away. What else a name leads to, as a pipe
-/// or a device, is written in place.
+/// A regular file, or one that does not exist, is written as a new file, under a name that no
+/// other file has, and is renamed once all are whole. The old content stays until then. If it is
+/// not renamed, the new file is removed. A pipe or a device is written in place.
 pub struct WrittenFiles<'a> {
     rt: &'a HostRuntime,
     /// The names of all, as the call has them.
@@ -37,13 +36,13 @@ pub struct WrittenFiles<'a> {
 struct Unfinished {
     name: String,
     own_name: String,
-    /// What the system knows it by.
+    /// Its device and inode number.
     device: u64,
     number: u64,
 }
 
 impl<'a> WrittenFiles<'a> {
-    /// No file yet.
+    /// Returns an empty set of files.
     pub fn new(rt: &'a HostRuntime) -> WrittenFiles<'a>
         ensures { names_of result ≡ [] }
     {
@@ -54,11 +53,11 @@ impl<'a> WrittenFiles<'a> {
         }
     }
 
-    /// Makes one more file for writing.
+    /// Creates one more file for writing, and returns it.
     ///
-    /// Refused is what `refusal_of` says, and a file that is another one of these. Where it is, or
-    /// can't be opened, nothing of its name is changed; a line on standard error says so, and a
-    /// second one why.
+    /// Returns `None` if it can't be opened, if `refusal_of` gives a reason, or if it is another
+    /// one of these files. Then standard error has a line that names it, and a second one with the
+    /// reason.
     pub fn create(&mut self, name: &'a str, inputs: &[&Input<'_>]) -> Option<File>
         ensures same { is_among name.now self.old ≡ true → IsNone result }
         ensures dash { name.now ≡ codes "-" → IsNone result }
@@ -85,8 +84,11 @@ impl<'a> WrittenFiles<'a> {
         }
     }
 
-    /// Makes one more file with a buffer before it, if a name says that it is wanted. An Err is
-    /// the exit status where it is not made; standard error says why.
+    /// Creates one more file, with a buffer, if there is a name, and returns it.
+    ///
+    /// # Errors
+    ///
+    /// The exit status 2 if it is not created; standard error has the reason.
     pub fn create_wanted(
         &mut self,
         name: Option<&'a str>,
@@ -119,7 +121,7 @@ impl<'a> WrittenFiles<'a> {
         }
     }
 
-    /// Makes a file for what is to have this name.
+    /// Creates the new file that is renamed to this name.
     fn create_new(&mut self, own_name: String) -> Option<File>
         ensures { names_of self.new ≡ names_of self.old }
     {
@@ -127,8 +129,8 @@ impl<'a> WrittenFiles<'a> {
         self.add(file, name, own_name)
     }
 
-    /// Makes a file, with the first number behind the name, from that of the process on, of which
-    /// there is none: no file is written over, also not one of another run.
+    /// Creates a file whose name ends in the first number, from the process id on, for which there
+    /// is none. So no file is overwritten, also none of another run.
     fn fresh_file(&self, own_name: &str) -> Option<(File, String)> {
         let rt = self.rt;
         let first = process::id(rt.process());
@@ -137,7 +139,7 @@ impl<'a> WrittenFiles<'a> {
                 Ok(name) => name,
                 Err(fault) => return refuse(rt, own_name, fault),
             };
-            // One of these that has the name is made for the same own name, by another path.
+            // If one of these has the name, it is for the same output, by another path.
             if self.is_written(name.as_str()) {
                 return refuse(rt, own_name, ONE_FILE);
             }
@@ -150,7 +152,7 @@ impl<'a> WrittenFiles<'a> {
         refuse(rt, own_name, "no name is left for the new file")
     }
 
-    /// Has one more file that does not have its own name: one that was made just now.
+    /// Adds a file that was just created and that is still to be renamed.
     fn add(&mut self, file: File, name: String, own_name: String) -> Option<File>
         ensures { names_of self.new ≡ names_of self.old }
     {
@@ -177,7 +179,7 @@ impl<'a> WrittenFiles<'a> {
         }
     }
 
-    /// Whether one of these has a name, as the call has it.
+    /// Returns whether one of these has this name, as the call has it.
     fn has(&self, name: &str) -> bool
         ensures { result ≡ is_among name.now self.now }
     {
@@ -189,8 +191,8 @@ impl<'a> WrittenFiles<'a> {
         false
     }
 
-    /// Whether a name is that which one of these will have, or the system says that it leads to one
-    /// of these, or to the regular file that one will take the place of.
+    /// Returns whether one of these will have this name, or is, or will replace, the regular file
+    /// that the name leads to.
     fn is_written(&self, name: &str) -> bool {
         let there = fs::metadata(self.rt, name);
         self.unfinished.iter().any(|file| {
@@ -200,9 +202,11 @@ impl<'a> WrittenFiles<'a> {
         })
     }
 
-    /// Gives each file its own name, where it does not have it yet.
+    /// Renames each file to its own name, if that was not done.
     ///
-    /// Where that fails, a line on standard error says of which one.
+    /// # Errors
+    ///
+    /// That of the first rename that fails; a line on standard error names the file.
     pub fn finish(&mut self) -> io::Result<()>
         ensures { names_of self.new ≡ names_of self.old }
     {
@@ -232,7 +236,7 @@ impl Drop for WrittenFiles<'_> {
 }
 
 impl Unfinished {
-    /// Whether it still has the name that it was made with.
+    /// Returns whether it still has the name that it was created with.
     fn is_there(&self, rt: &HostRuntime) -> bool {
         match fs::symlink_metadata(rt, self.name.as_str()) {
             Ok(there) => there.dev() == self.device && there.ino() == self.number,
@@ -240,12 +244,14 @@ impl Unfinished {
         }
     }
 
+    /// Removes the file, if it still has that name.
     fn take_away(&self, rt: &HostRuntime) {
         if self.is_there(rt) {
             let _ = fs::remove_file(rt, self.name.as_str());
         }
     }
 
+    /// Renames the file to its own name, if it still has the name that it was created with.
     fn take_own_name(&self, rt: &HostRuntime) -> io::Result<()> {
         if !self.is_there(rt) {
             return Err(io::Error::from(io::ErrorKind::NotFound));
@@ -261,7 +267,7 @@ pub struct OutputAfterFiles<'a, 'b> {
 }
 
 impl<'a, 'b> OutputAfterFiles<'a, 'b> {
-    /// Standard output after these files.
+    /// Returns standard output after these files.
     pub fn new(files: &'b mut WrittenFiles<'a>) -> OutputAfterFiles<'a, 'b> {
         OutputAfterFiles { files }
     }
@@ -278,8 +284,8 @@ impl Write for OutputAfterFiles<'_, '_> {
     }
 }
 
-/// The name that a regular file is to have, or one that is not there yet: where links lead, if they
-/// lead to one. None: something else is there.
+/// Returns the name of a regular file, or of one that does not exist, with links followed; `None`
+/// for anything else.
 fn place_of(rt: &HostRuntime, name: &str) -> io::Result<Option<String>> {
     if let Ok(there) = fs::metadata(rt, name) {
         if !there.is_file() {
@@ -292,7 +298,7 @@ fn place_of(rt: &HostRuntime, name: &str) -> io::Result<Option<String>> {
     Ok(Some(String::from_str(rt.alloc(), name)?))
 }
 
-/// Gives a file the permissions of that which it will take the place of, and says what it is.
+/// Gives a file the permissions of the one that it will replace. Returns its metadata.
 fn prepare(rt: &HostRuntime, file: &File, own_name: &str) -> io::Result<Metadata> {
     if let Ok(there) = fs::metadata(rt, own_name) {
         file.set_permissions(there.permissions())?;
@@ -300,7 +306,7 @@ fn prepare(rt: &HostRuntime, file: &File, own_name: &str) -> io::Result<Metadata
     file.metadata()
 }
 
-/// Says of a file that can't be opened why.
+/// Returns the file, or prints why it can't be opened.
 fn opened(rt: &HostRuntime, name: &str, file: io::Result<File>) -> Option<File> {
     match file {
         Ok(file) => Some(file),
@@ -308,9 +314,9 @@ fn opened(rt: &HostRuntime, name: &str, file: io::Result<File>) -> Option<File> 
     }
 }
 
-/// Why a name may not be written: it is empty, it is `-`, one of the inputs has it, or where the
-/// system tells it, it is a link to nothing, or leads to the regular file of an input, of standard
-/// output or of standard error.
+/// Returns why a name may not be written: it is empty, it is `-`, one of the inputs has it, or by
+/// the system it is a link to nothing, or leads to the regular file of an input, of standard output
+/// or of standard error.
 fn refusal_of(rt: &HostRuntime, name: &str, inputs: &[&Input<'_>]) -> Option<&'static str>
     ensures dash { name.now ≡ codes "-" → IsSome result }
     ensures empty { name.now ≡ [] → IsSome result }
@@ -334,6 +340,7 @@ fn refusal_of(rt: &HostRuntime, name: &str, inputs: &[&Input<'_>]) -> Option<&'s
     }
 }
 
+/// Returns whether a name is that of a link.
 fn is_link(rt: &HostRuntime, name: &str) -> bool {
     match fs::symlink_metadata(rt, name) {
         Ok(there) => there.is_symlink(),
@@ -341,7 +348,7 @@ fn is_link(rt: &HostRuntime, name: &str) -> bool {
     }
 }
 
-/// Whether one of the inputs has a name, or is the regular file that the name leads to.
+/// Returns whether one of the inputs has this name, or is the regular file that it leads to.
 fn is_read(
     rt: &HostRuntime,
     name: &str,

@@ -51,7 +51,7 @@ pub(crate) fn check_files(
     Ok(exit_status(&outcome))
 }
 
-/// Makes the files that are wanted. None of them is one of the inputs, nor is one file made twice.
+/// Makes the optional outputs. None of them is one of the inputs, nor is one file made twice.
 pub(crate) fn create_outputs<'a>(
     files: &mut WrittenFiles<'a>,
     call: &'a Call<'_>,

@@ -2,15 +2,14 @@
 //! [--trim FILE] [--core FILE] [--holds FILE]`: checks a DRAT, DPR, FRAT or LPR proof against a
 //! formula, and says in one line what it shows.
 //!
-//! Which of them the proof is, is told by its first bytes, or by `--drat`, `--frat` or `--lpr`.
-//! With `--lrat` the lines that the checker of LRAT proofs accepted are written to a file, with
-//! `--binary` in the binary form, with `--trim` the steps of DRAT that they are, and with `--core`
-//! the clauses of the formula that they use. With `--holds` the proof is one piece of a proof,
-//! behind which the clauses of a file are wanted.
-//! `--example` checks a small fixed example, `--help` says how the program is called, and
-//! `--version` of which version it is. The name `-` of a file that is read stands for standard
-//! input. What `RUST_LOG` asks for, as `RUST_LOG=info`, is logged to standard error; else nothing
-//! is.
+//! Which of them the proof is, is detected from its first bytes, or given by `--drat`, `--frat` or
+//! `--lpr`. With `--lrat` the lines that the checker of LRAT proofs accepted are written to a file,
+//! with `--binary` in the binary form, with `--trim` the steps of DRAT that they are, and with
+//! `--core` the clauses of the formula that they use. With `--holds` the proof is one piece of a
+//! proof, which must derive the target clauses of a file. `--example` checks a small fixed example,
+//! `--help` says how the program is called, and `--version` of which version it is. The name `-` of
+//! a file that is read stands for standard input. What `RUST_LOG` asks for, as `RUST_LOG=info`, is
+//! logged to standard error; else nothing is.
 #![tactic(auto)]
 
 mod about;

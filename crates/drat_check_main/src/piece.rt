@@ -1,4 +1,4 @@
-//! A piece of a proof, behind which the clauses of a file are wanted.
+//! A piece of a proof, which must derive the target clauses of a file.
 use crate::about::ABOUT;
 use crate::fault::{is_unread, place_in_piece, say_stats, unread_formula, unread_wanted};
 use crate::files::create_outputs;

@@ -1,4 +1,4 @@
-//! A proof is read, and its pieces are written.
+//! Reads a proof and writes its pieces.
 use crate::fault::CutFailure;
 use crate::files::{PieceFiles, finish};
 use crate::piece::{Limits, Piece};
@@ -10,7 +10,11 @@ use sat_formula::DimacsReader;
 use std::alloc::Global;
 use std::io::{Read, Write};
 
-/// Cuts a proof. The answer is whether it comes to a conflict. In `told` stands how far it is.
+/// Cuts a proof. Returns whether it leads to a conflict. Progress is reported to `told`.
+///
+/// # Errors
+///
+/// The first fault of a file that is read or written, or out of memory.
 pub fn cut<F: Read + Drop, P: Read + Drop, L: Log>(
     told: &L,
     alloc: Global,
@@ -33,6 +37,7 @@ pub fn cut<F: Read + Drop, P: Read + Drop, L: Log>(
     Ok(cutter.has_conflict())
 }
 
+/// Reads the formula, to its end, into the cutter.
 fn read_formula<F: Read + Drop>(
     alloc: Global,
     cnf: F,
@@ -50,8 +55,8 @@ fn read_formula<F: Read + Drop>(
     Ok(())
 }
 
-/// Writes a piece. The clauses behind it are whole before its steps are, and then it is told. The
-/// answer is whether another piece comes.
+/// Writes a piece. The clauses after it are written before its steps; then it is reported. Returns
+/// whether another piece follows.
 fn write_piece<P: Read + Drop, L: Log>(
     told: &L,
     number: u64,
@@ -73,8 +78,8 @@ fn write_piece<P: Read + Drop, L: Log>(
     Ok(goes_on)
 }
 
-/// Writes the steps of a piece, the first of which was read before. The answer is whether a step
-/// was read that is of the next one.
+/// Writes the steps of a piece, the first of which was read before. Returns whether a step of the
+/// next piece was read.
 fn write_steps<P: Read + Drop, W: Write>(
     piece: &mut Piece,
     cutter: &mut Cutter,

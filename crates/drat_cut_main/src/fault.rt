@@ -18,13 +18,13 @@ pub enum CutFailure {
     Cut(#[from] CutFault),
     #[error("error writing: {0}")]
     Write(#[from] io::Error),
-    /// A file can't be opened, and standard error has said so.
+    /// A file can't be opened; standard error has the reason.
     #[error("a file can't be opened")]
     Unopened,
 }
 
 impl CutFailure {
-    /// In which file it is.
+    /// Returns in which file the fault is.
     pub fn place(&self) -> FaultPlace<'static> {
         match self {
             CutFailure::Formula(fault) => FaultPlace::in_formula(fault),

@@ -1,6 +1,6 @@
 //! The files of the pieces. Each has its name once it is whole.
 use crate::fault::CutFailure;
-use command::{Input, Source, WrittenFiles, open_again};
+use command::{Input, Source, System, WrittenFiles};
 use drat_cut::Cutter;
 use log::Log;
 use std::alloc::AllocError;
@@ -79,7 +79,7 @@ pub fn finish(out: BufWriter<File>, files: &mut WrittenFiles<'_>) -> Result<(), 
 /// A file that is read, as it is known by its name alone: its reader is elsewhere. Where its bytes
 /// come only once it is no regular file, and nothing can be written over it.
 fn as_known<'a>(rt: &HostRuntime, name: &'a str) -> Input<'a> {
-    let file = match open_again(rt, name) {
+    let file = match rt.open_again(name) {
         Some(file) => Source::File(file),
         None => Source::StandardInput(rt.stdin()),
     };

@@ -42,6 +42,7 @@ fn run(rt: &HostRuntime, call: &Call<'_>) -> Result<u8, u8> {
     }
 }
 
+/// Cuts the proof of these files. Returns the exit status.
 fn cut_files(
     rt: &HostRuntime,
     names: InputNames<'_>,

@@ -1,18 +1,18 @@
-//! How long a piece is.
+//! The length of a piece.
 use command::Call;
 use drat_cut::Taken;
 
-/// Where pieces may end.
+/// The points at which pieces may end.
 #[derive(Clone, Copy)]
 pub struct Limits {
-    /// With this many lemmas at least.
+    /// After at least this many lemmas.
     lemmas: u64,
-    /// Where at most this many clauses live. None: twice as many as the piece has lemmas.
+    /// With at most this many live clauses; `None` is twice as many as the piece has lemmas.
     live: Option<u64>,
 }
 
 impl Limits {
-    /// Those that a call asks for. None: a number is none from 1 on.
+    /// Returns the limits that a call asks for, or `None` if a number is not one from 1 on.
     pub fn of_call(call: &Call<'_>) -> Option<Limits> {
         let lemmas = match call.value("--lemmas") {
             None => 20_000,
@@ -26,24 +26,25 @@ impl Limits {
     }
 }
 
+/// Returns the number of a word, if it is one from 1 on.
 fn number_of(word: &str) -> Option<u64> {
     word.parse::<u64>().ok().filter(|number| *number > 0)
 }
 
-/// How a piece goes.
+/// The piece that is being written.
 #[derive(Clone, Copy)]
 pub struct Piece {
     limits: Limits,
-    /// How many it has.
+    /// How many lemmas it has.
     pub lemmas: u64,
-    /// At most this many clauses lived in it.
+    /// The most clauses that lived in it at once.
     most: u64,
-    /// The last step was a deletion.
+    /// Whether the last step was a deletion.
     deleted: bool,
 }
 
 impl Piece {
-    /// It begins where this many clauses live.
+    /// Returns a piece that begins with this many live clauses.
     pub fn new(limits: Limits, live: usize) -> Piece {
         Piece {
             limits,
@@ -53,9 +54,9 @@ impl Piece {
         }
     }
 
-    /// Whether the proof is cut before the next step. Where deletions have just ended, a fifth of
-    /// what lived at the most is gone, or the piece has become long; and few clauses live, so that
-    /// those that are written stay few beside the proof.
+    /// Returns whether the proof is cut before the next step: deletions have just ended, a fifth of
+    /// the most that lived is gone or the piece has become long, and few clauses live, so that the
+    /// written clauses stay few compared with the proof.
     pub fn is_done(&self, live: usize, deletes_next: bool) -> bool {
         let least = self.limits.lemmas;
         if !self.deleted || deletes_next || self.lemmas < least {
@@ -67,7 +68,7 @@ impl Piece {
         (is_low || is_long) && live <= self.limits.live.unwrap_or(self.lemmas.saturating_mul(2))
     }
 
-    /// A step is taken, and this many clauses live.
+    /// Notes that a step was taken, after which this many clauses live.
     pub fn take(&mut self, taken: Taken, live: usize) {
         match taken {
             Taken::Nothing => return,

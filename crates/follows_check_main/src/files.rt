@@ -111,8 +111,8 @@ fn hold_question(
     Ok((cnf, claims))
 }
 
-/// Says on standard error how a run ended, and what the headers lie about. The result is the exit
-/// status.
+/// Says on standard error how a run ended, and the mismatches of the headers. The result is the
+/// exit status.
 fn end(
     rt: &HostRuntime,
     names: Names<'_>,

@@ -4,29 +4,51 @@
 //! `--example` checks a small fixed example. The name `-` is standard input.
 #![tactic(auto)]
 
+ghost use Rattle.std.specs.Prelude.{◌≡◌, ℕ, List, [], ◌∷◌, Ok, Some, codes, false};
+ghost use Rattle.std.specs.Io.KnownBytes.{Appends};
+ghost use Rattle.command.specs.Calls.{choices_of, is_given, operands_of};
+ghost use Rattle.command.specs.Inputs.{bytes_named};
+ghost use Rattle.sat_formula.specs.Refuted.{IsRefuted};
+ghost use Rattle.verdicts.specs.Verdicts.{shown_line};
+ghost use Rattle.verdicts.specs.declared.verdict.Verdict.TheVariants.{Verified};
+
 mod about;
 mod files;
 
 use crate::about::ABOUT;
 use crate::files::check_files;
-use command::{EXAMPLE_FORMULA, EXAMPLE_LRAT, run_program, say_cause};
+use command::{Call, EXAMPLE_FORMULA, EXAMPLE_LRAT, System, run_program, say_cause};
 use hint_check::{exit_status, run_check};
 use std::io;
+use std::io::Write;
 use std::process::ExitCode;
 
 fn main(rt: HostRuntime) -> ExitCode {
-    run_program(&rt, &ABOUT, |call| {
-        if call.has("--example") {
-            Ok(check_example(&rt))
-        } else {
-            check_files(&rt, call)
-        }
-    })
+    run_program(&rt, &ABOUT, |call| run(&rt, call, &mut io::writer(&rt)))
 }
 
-fn check_example(rt: &HostRuntime) -> u8 {
+/// Runs a call in a system, with `out` as its standard output.
+fn run<S: System, W: Write>(system: &S, call: &Call<'_>, out: &mut W) -> Result<u8, u8>
+    ensures refutes { (cnf lines text : List ℕ)
+        → operands_of call.now ≡ cnf ∷ lines ∷ []
+        → is_given (choices_of call.now) (codes "--example") ≡ false
+        → bytes_named (S.file_bytes system.now) (S.input_bytes system.now) cnf ≡ Some text
+        → result ≡ Ok 0 → IsRefuted text }
+    ensures line { result ≡ Ok 0
+        → Appends (W.contents out.old) (W.contents out.new) (shown_line Verified) }
+{
+    if call.has("--example") {
+        Ok(check_example(system, out))
+    } else {
+        check_files(system, call, out)
+    }
+}
+
+fn check_example<S: System, W: Write>(system: &S, out: &mut W) -> u8
+    ensures { result ≡ 0 → Appends (W.contents out.old) (W.contents out.new) (shown_line Verified) }
+{
     let (cnf, lrat) = (EXAMPLE_FORMULA, EXAMPLE_LRAT);
-    let outcome = run_check(rt.alloc(), cnf, lrat, None, &mut io::writer(rt), &mut None);
-    say_cause(rt, &outcome);
+    let outcome = run_check(system.alloc(), cnf, lrat, None, out, &mut None);
+    say_cause(system, &outcome);
     exit_status(&outcome)
 }

@@ -6,6 +6,15 @@
 //! What `RUST_LOG` asks for, as `RUST_LOG=info`, is logged to standard error; else nothing is.
 #![tactic(auto)]
 
+ghost use Rattle.std.specs.Prelude.{◌≡◌, ℕ, List, [], ◌∷◌, None, Ok, Some, codes, false};
+ghost use Rattle.std.specs.Io.KnownBytes.{Appends};
+ghost use Rattle.command.specs.Calls.{choices_of, is_given, operands_of, value_given};
+ghost use Rattle.command.specs.Inputs.{bytes_named};
+ghost use Rattle.lrat_check_main.specs.Pieces.{ShowsPiece};
+ghost use Rattle.sat_formula.specs.Refuted.{IsRefuted};
+ghost use Rattle.verdicts.specs.Verdicts.{shown_line};
+ghost use Rattle.verdicts.specs.declared.verdict.Verdict.TheVariants.{Verified};
+
 mod about;
 mod files;
 mod piece;
@@ -13,30 +22,52 @@ mod piece;
 use crate::about::ABOUT;
 use crate::files::check_files;
 use crate::piece::check_piece;
-use command::{Call, EXAMPLE_FORMULA, EXAMPLE_LRAT, ids_of, input_names, run_program, say_cause};
+use command::{
+    Call, EXAMPLE_FORMULA, EXAMPLE_LRAT, System, ids_of, input_names, run_program, say_cause,
+};
 use lrat_check::{Ids, exit_status, run_check};
 use std::io;
+use std::io::Write;
 use std::process::ExitCode;
 
 fn main(rt: HostRuntime) -> ExitCode {
-    run_program(&rt, &ABOUT, |call| run(&rt, call))
+    run_program(&rt, &ABOUT, |call| run(&rt, call, &mut io::writer(&rt)))
 }
 
-fn run(rt: &HostRuntime, call: &Call<'_>) -> Result<u8, u8> {
-    let ids = ids_of(rt, &ABOUT, call, Ids::Plain, Ids::Doubled)?;
+/// Runs a call in a system, with `out` as its standard output.
+fn run<S: System, W: Write>(system: &S, call: &Call<'_>, out: &mut W) -> Result<u8, u8>
+    ensures refutes { (cnf proof text : List ℕ)
+        → operands_of call.now ≡ cnf ∷ proof ∷ []
+        → is_given (choices_of call.now) (codes "--example") ≡ false
+        → value_given (choices_of call.now) (codes "--holds") ≡ None
+        → bytes_named (S.file_bytes system.now) (S.input_bytes system.now) cnf ≡ Some text
+        → result ≡ Ok 0 → IsRefuted text }
+    ensures line { value_given (choices_of call.now) (codes "--holds") ≡ None → result ≡ Ok 0
+        → Appends (W.contents out.old) (W.contents out.new) (shown_line Verified) }
+    ensures piece { (cnf proof holds text wanted : List ℕ)
+        → operands_of call.now ≡ cnf ∷ proof ∷ []
+        → is_given (choices_of call.now) (codes "--example") ≡ false
+        → value_given (choices_of call.now) (codes "--holds") ≡ Some holds
+        → bytes_named (S.file_bytes system.now) (S.input_bytes system.now) cnf ≡ Some text
+        → S.file_bytes system.now holds ≡ Some wanted
+        → result ≡ Ok 0 → ShowsPiece text wanted (W.contents out.old) (W.contents out.new) }
+{
+    let ids = ids_of(system, &ABOUT, call, Ids::Plain, Ids::Doubled)?;
     if call.has("--example") {
-        return Ok(check_example(rt));
+        return Ok(check_example(system, out));
     }
-    let names = input_names(rt, &ABOUT, call)?;
+    let names = input_names(system, &ABOUT, call)?;
     match call.value("--holds") {
-        Some(holds) => check_piece(rt, names, holds, ids, call),
-        None => check_files(rt, names, ids, call),
+        Some(holds) => check_piece(system, names, holds, ids, call, out),
+        None => check_files(system, names, ids, call, out),
     }
 }
 
-fn check_example(rt: &HostRuntime) -> u8 {
+fn check_example<S: System, W: Write>(system: &S, out: &mut W) -> u8
+    ensures { result ≡ 0 → Appends (W.contents out.old) (W.contents out.new) (shown_line Verified) }
+{
     let (cnf, proof) = (EXAMPLE_FORMULA, EXAMPLE_LRAT);
-    let outcome = run_check(rt.alloc(), cnf, proof, None, &mut io::writer(rt), &mut None);
-    say_cause(rt, &outcome);
+    let outcome = run_check(system.alloc(), cnf, proof, None, out, &mut None);
+    say_cause(system, &outcome);
     exit_status(&outcome)
 }

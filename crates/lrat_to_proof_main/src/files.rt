@@ -39,6 +39,7 @@ pub(crate) fn convert_files(
     Ok(status)
 }
 
+/// Converts the proof, through a buffer.
 fn write_proof(
     rt: &HostRuntime,
     cnf: Source,

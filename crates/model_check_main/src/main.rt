@@ -4,14 +4,23 @@
 //! `--example` checks a small fixed example. The name `-` is standard input.
 #![tactic(auto)]
 
+ghost use Rattle.std.specs.Prelude.{◌≡◌, ℕ, List, [], ◌∷◌, Ok, Some, codes, false};
+ghost use Rattle.std.specs.Io.KnownBytes.{Appends};
+ghost use Rattle.command.specs.Calls.{choices_of, is_given, operands_of};
+ghost use Rattle.command.specs.Inputs.{bytes_named};
+ghost use Rattle.model_check.specs.Models.{IsSatisfiedBy};
+ghost use Rattle.model_check.specs.Verdicts.{shown_line};
+ghost use Rattle.model_check.specs.declared.verdict.Verdict.TheVariants.{Verified};
+
 mod about;
 mod files;
 
 use crate::about::ABOUT;
 use crate::files::check_files;
-use command::{Call, input_names, run_program, say_cause};
+use command::{Call, System, input_names, run_program, say_cause};
 use model_check::{exit_status, run_check};
 use std::io;
+use std::io::Write;
 use std::process::ExitCode;
 
 /// 1 or 2, not 1 or 3, not 2 or not 3.
@@ -21,19 +30,31 @@ const EXAMPLE_FORMULA: &[u8] = b"p cnf 3 3\n1 2 0\n-1 3 0\n-2 -3 0\n";
 const EXAMPLE_ANSWER: &[u8] = b"s SATISFIABLE\nv 1 -2 3 0\n";
 
 fn main(rt: HostRuntime) -> ExitCode {
-    run_program(&rt, &ABOUT, |call| run(&rt, call))
+    run_program(&rt, &ABOUT, |call| run(&rt, call, &mut io::writer(&rt)))
 }
 
-fn run(rt: &HostRuntime, call: &Call<'_>) -> Result<u8, u8> {
+/// Runs a call in a system. The verdict's line is written to `out`, and so is that of the example.
+fn run<S: System, W: Write>(system: &S, call: &Call<'_>, out: &mut W) -> Result<u8, u8>
+    ensures satisfies { (cnf answer text said : List ℕ)
+        → operands_of call.now ≡ cnf ∷ answer ∷ []
+        → is_given (choices_of call.now) (codes "--example") ≡ false
+        → bytes_named (S.file_bytes system.now) (S.input_bytes system.now) cnf ≡ Some text
+        → bytes_named (S.file_bytes system.now) (S.input_bytes system.now) answer ≡ Some said
+        → result ≡ Ok 0 → IsSatisfiedBy text said }
+    ensures line { result ≡ Ok 0
+        → Appends (W.contents out.old) (W.contents out.new) (shown_line Verified) }
+{
     if call.has("--example") {
-        return Ok(check_example(rt));
+        return Ok(check_example(system, out));
     }
-    check_files(rt, input_names(rt, &ABOUT, call)?)
+    check_files(system, input_names(system, &ABOUT, call)?, out)
 }
 
-fn check_example(rt: &HostRuntime) -> u8 {
+fn check_example<S: System, W: Write>(system: &S, out: &mut W) -> u8
+    ensures { result ≡ 0 → Appends (W.contents out.old) (W.contents out.new) (shown_line Verified) }
+{
     let (cnf, answer) = (EXAMPLE_FORMULA, EXAMPLE_ANSWER);
-    let outcome = run_check(rt.alloc(), cnf, answer, &mut io::writer(rt), &mut None);
-    say_cause(rt, &outcome);
+    let outcome = run_check(system.alloc(), cnf, answer, out, &mut None);
+    say_cause(system, &outcome);
     exit_status(&outcome)
 }

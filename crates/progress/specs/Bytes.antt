@@ -1,4 +1,4 @@
--- What a reader that tells how far it has come will give.
+-- What a reader that reports progress will return.
 --     unread_of      the bytes to come: those of the reader within
 use Rattle.std.specs.Prelude.{ℕ, List, Option}
 use Rattle.progress.specs.declared.bytes.ToldBytes.{ToldBytes}

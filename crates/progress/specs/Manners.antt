@@ -1,4 +1,4 @@
--- How a run tells how far it has come.
+-- How a run reports progress.
 --     manner_by is_quiet is_verbose is_terminal      as two options ask, and else as standard error is
 use Rattle.std.specs.Prelude.{Bool, true, false}
 use Rattle.progress.specs.declared.manner.Manner.{Manner}

@@ -103,7 +103,7 @@ impl Display for BytesRead {
     }
 }
 
-/// Bytes, as millions of them with one digit behind the point.
+/// Bytes, as millions of them with one digit after the point.
 #[derive(Clone, Copy)]
 struct Megabytes(u64);
 

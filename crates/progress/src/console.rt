@@ -42,7 +42,7 @@ impl<R: Eprint + Clock> Log for AskedLog<'_, R> {
 
 /// Returns what `RUST_LOG` asks for: without it nothing, and nothing is allocated then. If there is
 /// no memory to read what it is, it asks for nothing.
-pub(crate) fn asked_for(rt: &HostRuntime) -> Filter {
+pub fn asked_for(rt: &HostRuntime) -> Filter {
     if let Err(FillError::NotPresent) = rt.var(SETTING, &mut [0]) {
         return Builder::new(rt.alloc()).build();
     }

@@ -10,6 +10,6 @@ mod tests;
 mod told;
 
 pub use bytes::ToldBytes;
-pub use console::AskedLog;
+pub use console::{AskedLog, asked_for};
 pub use manner::Manner;
 pub use told::Progress;

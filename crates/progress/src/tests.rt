@@ -1,4 +1,4 @@
-//! What is told, and when, by a clock that is set.
+//! What is reported, and when, by a clock that is set.
 use crate::bytes::ToldBytes;
 use crate::manner::Manner;
 use crate::told::Progress;
@@ -63,7 +63,7 @@ impl Eprint for Desk {
     }
 }
 
-/// How a run tells, what the environment asks for, at which milliseconds a record comes, and what
+/// How a run reports, what the environment asks for, at which milliseconds a record comes, and what
 /// is written of those, which are numbered from 0.
 type Row = (Manner, &'static str, &'static [u64], &'static str);
 
@@ -135,7 +135,7 @@ fn log_both(desk: &Desk, progress: &Progress<&Desk>) {
     debug!(log; "unasked");
 }
 
-/// How a run tells, and what is written as a proof of 10,000 bytes is read.
+/// How a run reports, and what is written as a proof of 10,000 bytes is read.
 static READ: [(Manner, &str); 2] = [
     (Manner::Silent, ""),
     (

@@ -1,5 +1,5 @@
 //! Progress of a run, reported at intervals.
-use crate::console::{AskedLog, asked_for};
+use crate::console::AskedLog;
 use crate::manner::Manner;
 use log::filter::Filter;
 use log::kv::Source;
@@ -8,7 +8,7 @@ use log::span::Spans;
 use log::{Level, Log, Metadata, Record};
 use std::cell::Cell;
 use std::fmt::Display;
-use std::io::{Eprint, IsTerminal};
+use std::io::Eprint;
 use std::rt::Clock;
 use std::time::Duration;
 
@@ -37,19 +37,6 @@ pub struct Progress<R> {
     is_shown: Cell<bool>,
 }
 
-impl<'a> Progress<&'a HostRuntime> {
-    /// Returns the progress of a run that begins now, as the options of its call ask.
-    pub fn of_call(
-        rt: &'a HostRuntime,
-        program: &'static str,
-        is_quiet: bool,
-        is_verbose: bool,
-    ) -> Progress<&'a HostRuntime> {
-        let manner = Manner::asked(is_quiet, is_verbose, rt.stderr().is_terminal());
-        Progress::new(rt, program, asked_for(rt), manner)
-    }
-}
-
 impl<R: Eprint + Clock> Progress<R> {
     /// Returns the progress of a run that begins now.
     pub fn new(rt: R, program: &'static str, filter: Filter, manner: Manner) -> Progress<R> {
@@ -74,6 +61,7 @@ impl<R: Eprint + Clock> Progress<R> {
         self.is_heard_of(&Metadata::new(Level::Info, self.program))
     }
 
+    /// Returns whether a record with this metadata is reported.
     fn is_heard_of(&self, metadata: &Metadata<'_>) -> bool {
         self.manner != Manner::Silent || self.filter.enabled(metadata)
     }
@@ -86,6 +74,7 @@ impl<R: Eprint + Clock> Progress<R> {
         }
     }
 
+    /// Prints a report, by the manner.
     fn tell<D: Display + Drop>(&self, text: D) {
         let _ = match self.manner {
             Manner::Silent => Ok(()),

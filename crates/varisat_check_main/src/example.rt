@@ -9,7 +9,7 @@ use varisat_checker::Checker;
 /// A proof of one step, which ends it.
 const END_ALONE: [u8; 1] = [0x0D];
 
-/// A variable that has to be true and false, and a proof that has nothing to add.
+/// A variable that must be true and false, and a proof that has nothing to add.
 pub(crate) fn check_example(rt: &HostRuntime, call: &Call<'_>) -> u8 {
     let outcome = run_example(rt, call);
     say_cause(rt, &outcome);

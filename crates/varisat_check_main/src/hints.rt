@@ -34,6 +34,7 @@ pub(crate) fn write_hints(
     Ok(report(rt, names, &outcome, &lie))
 }
 
+/// Runs the check with a writer of hints, whose output goes to `lrat`.
 fn hints_of<L: Log, P: Read + Drop, W: Write>(
     rt: &HostRuntime,
     log: &L,

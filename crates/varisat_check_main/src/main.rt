@@ -16,6 +16,7 @@ use crate::example::check_example;
 use crate::files::check_files;
 use crate::hints::write_hints;
 use command::{Call, InputNames, run_program, unnamed};
+use std::io;
 use std::process::ExitCode;
 
 fn main(rt: HostRuntime) -> ExitCode {
@@ -25,7 +26,7 @@ fn main(rt: HostRuntime) -> ExitCode {
 fn run(rt: &HostRuntime, call: &Call<'_>) -> Result<u8, u8> {
     match call.operands.as_slice() {
         [] => Ok(check_example(rt, call)),
-        [cnf, proof] => check_files(rt, names_of(cnf, proof), call),
+        [cnf, proof] => check_files(rt, names_of(cnf, proof), call, &mut io::writer(rt)),
         [cnf, proof, lrat] => write_hints(rt, names_of(cnf, proof), lrat.as_str(), call),
         operands => Err(unnamed(rt, &ABOUT, operands.len())),
     }

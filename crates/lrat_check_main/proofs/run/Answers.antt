@@ -1,0 +1,15 @@
+use Rattle.std.proofs.Common.{◌≡◌, ℕ, List, Some}
+use Rattle.command.specs.Inputs.{bytes_named}
+use Rattle.lrat_check_main.proofs.run.Goals as goal
+
+-- the names are those of the call
+pub returns-in-Some-clause-piece : goal.returns-in-Some-clause-piece
+returns-in-Some-clause-piece g c cnf proof holds text wanted operands alone said known other well =
+    let names = c.in_ok-names.ensures.ok in
+    let first : cnf ≡ c.in_ok-names.names.cnf.now = cc in
+    let value = c.in-Some.ensures in
+    let third : holds ≡ c.in-Some.holds.now = cc in
+    let formula : bytes_named (g.S.System.file_bytes c.args.system.now)
+    (g.S.System.input_bytes c.args.system.now) c.in_ok-names.names.cnf.now ≡ Some text = cc in
+    let target : g.S.System.file_bytes c.args.system.now c.in-Some.holds.now ≡ Some wanted = cc in
+    c.check_piece.ensures text wanted formula target well

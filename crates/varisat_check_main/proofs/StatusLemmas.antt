@@ -1,0 +1,14 @@
+-- What a run's status says of it.
+use Rattle.std.proofs.Common.{◌≡◌, refl, Ok, Err}
+use Rattle.std.specs.declared.result.Result.{Result}
+use Rattle.varisat_check.specs.Verdicts.{shows_unsat}
+use Rattle.varisat_check.specs.declared.verdict.Verdict.{Verdict}
+use Rattle.varisat_check.specs.declared.verdict.Verdict.TheVariants.{Unsatisfiable, UnsatisfiableWithAdded, NotShown}
+use Rattle.verdicts.specs.Statuses.{status_of}
+
+-- a run with the status 0 has shown that the formula is unsatisfiable
+pub status_zero : {E : Type 0} (r : Result Verdict E) → status_of shows_unsat r ≡ 0 → r ≡ Ok Unsatisfiable
+status_zero (Ok Unsatisfiable) h = refl
+status_zero (Ok (UnsatisfiableWithAdded n)) h = absurd (cc)
+status_zero (Ok NotShown) h = absurd (cc)
+status_zero (Err fault) h = absurd (cc)
