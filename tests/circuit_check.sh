@@ -1,6 +1,7 @@
 #!/usr/bin/env bash
-# Circuits in AIGER, and `circuit_check` on them: random circuits and texts that are nearly ones, by tests/circuit_check/circuits.py.
-# It uses cadical, if it is installed.
+# Circuits in AIGER, and `circuit_check` on them: random circuits and texts that are nearly ones, by tests/circuit_check/circuits.py;
+# random machines and invariants, by tests/circuit_check/machines.py; and a machine in Verilog with the invariant of a model checker.
+# It uses cadical, yosys and berkeley-abc, if they are installed.
 #
 #   tests/circuit_check.sh [COUNT [SEED]]
 #
@@ -37,4 +38,35 @@ trap 'rm -rf "$work"' EXIT
     exit 1
   fi
 )
+# An arbiter by yosys and its invariant by berkeley-abc: the machine is safe, and without any one of its cubes nothing shows it.
+if [[ $(command -v yosys berkeley-abc cadical | wc -l) == 3 ]]; then
+  (
+    cd "$work"
+    # shown WANTED: the three formulas of arbiter.aig and invariant.aig, their proofs, and the verdict
+    shown() {
+      "$check" safe arbiter.aig invariant.aig --init-formula init.cnf --step-formula step.cnf --bad-formula bad.cnf
+      for part in init step bad; do
+        cadical -q $part.cnf $part.proof > said || [[ $? == 10 || $? == 20 ]]
+      done
+      "$check" safe arbiter.aig invariant.aig --init-proof init.proof --step-proof step.proof --bad-proof bad.proof > said 2> err || true
+      if [[ $(cat said) != "$1" ]]; then
+        echo "WRONG arbiter: $(cat said err), and not $1"
+        exit 1
+      fi
+    }
+    yosys -q -p "read_verilog $top/tests/circuit_check/arbiter.v; synth -flatten -top arbiter; dffunmap; aigmap; opt_clean; write_aiger -zinit arbiter.aig" \
+      > said 2>&1 || cat said
+    berkeley-abc -q "read_aiger arbiter.aig; pdr -d -I cubes" > said 2>&1 || cat said
+    grep '^[01-]* 1$' cubes > all
+    python3 -B "$top/tests/circuit_check/invariant.py" arbiter.aig all invariant.aig
+    shown "s VERIFIED SAFE"
+    sed 1d all > fewer
+    python3 -B "$top/tests/circuit_check/invariant.py" arbiter.aig fewer invariant.aig
+    shown "s NOT VERIFIED"
+    echo "arbiter: $(wc -l < all) cubes"
+  )
+else
+  echo "yosys, berkeley-abc or cadical is not installed: no arbiter"
+fi
+python3 -B "$top/tests/circuit_check/machines.py" "$check" "${1:-60}" "${2:-1}"
 python3 -B "$top/tests/circuit_check/circuits.py" "$check" "${1:-200}" "${2:-1}"

@@ -54,13 +54,28 @@ def leb(n):
     return bytes(out + bytes([n]))
 
 
-def write(c, tail=b""):
+def write_text(c, tail=b""):
+    """The circuit in the text form."""
+    lines = ["aag " + " ".join(map(str, counts_of(c)))]
+    lines += [str(2 * (k + 1)) for k in range(c.inputs)]
+    for lit, follows, reset in c.latches:
+        lines.append(f"{lit} {follows}" + ("" if reset == 0 else f" {lit if reset is None else reset}"))
+    lines += [str(lit) for lit in [*c.outputs, *c.bad, *c.constraints]]
+    lines += [f"{out} {left} {right}" for out, left, right in c.gates]
+    return "\n".join(lines).encode() + b"\n" + tail
+
+
+def counts_of(c):
     counts = [c.maximum(), c.inputs, len(c.latches), len(c.outputs), len(c.gates)]
     if c.bad or c.constraints:
         counts.append(len(c.bad))
     if c.constraints:
         counts.append(len(c.constraints))
-    lines = ["aig " + " ".join(map(str, counts))]
+    return counts
+
+
+def write(c, tail=b""):
+    lines = ["aig " + " ".join(map(str, counts_of(c)))]
     for lit, follows, reset in c.latches:
         lines.append(str(follows) + ("" if reset == 0 else f" {lit if reset is None else reset}"))
     lines += [str(lit) for lit in [*c.outputs, *c.bad, *c.constraints]]
@@ -112,9 +127,8 @@ def read_header(text):
     for at, byte in enumerate(b"aig "):
         if at >= len(data):
             raise text.fault("the text ends too early")
-        if data[at] != byte:
-            raise text.fault("the text form of AIGER, which aigtoaig makes binary" if at == 1 and data[1] == ord("a")
-                             else "no header of a binary AIGER file")
+        if data[at] != byte and (at, data[at]) != (1, ord("a")):
+            raise text.fault("no header of an AIGER file")
     text.at, text.line = 4, 0
     counts = []
 
@@ -140,11 +154,42 @@ def read(data):
     text = Text(data)
     top, inputs, latches, outputs, gates, bad, constraints = read_header(text)[:7]
     c = Circuit(inputs)
+    in_lines = data[1] == ord("a")
+
+    def own_first(own, last):
+        """The first number of a line, where it is the own literal: the checks of those after it count from 0 again."""
+        def check(index, value, follows):
+            if value != own:
+                raise text.fault("inputs, latches and gates are numbered in this order, as aigtoaig does it")
+            if (follows == b"\n") != last:
+                raise text.fault("malformed")
+        return check
+
+    def gate_line(own):
+        said = []
+
+        def check(index, value, follows):
+            if index == 0:
+                return own_first(own, False)(index, value, follows)
+            if value > 2 * top + 1:
+                raise text.fault("literal out of range")
+            if value >= own:
+                raise text.fault("a gate reads itself or a later gate, which aigtoaig puts in order")
+            if (follows == b"\n") != (index == 2):
+                raise text.fault("malformed")
+            said.append(value)
+
+        numbers(text, *text.next(), check)
+        return (own, *said)
 
     def one_line(own):
         said = []
 
         def check(index, value, follows):
+            if in_lines and own is not None:
+                if index == 0:
+                    return own_first(own, False)(index, value, follows)
+                index -= 1
             if index == 0:
                 if value > 2 * top + 1:
                     raise text.fault("literal out of range")
@@ -160,6 +205,9 @@ def read(data):
         numbers(text, *text.next(), check)
         return said
 
+    if in_lines:
+        for k in range(inputs):
+            numbers(text, *text.next(), own_first(2 * (k + 1), True))
     for k in range(latches):
         own = 2 * (inputs + 1 + k)
         said = one_line(own) + [0]
@@ -169,6 +217,9 @@ def read(data):
     c.constraints = [one_line(None)[0] for _ in range(constraints)]
     for k in range(gates):
         own = 2 * (inputs + latches + 1 + k)
+        if in_lines:
+            c.gates.append(gate_line(own))
+            continue
 
         def fault(kind):
             return Fault(f"gate of variable {own // 2}", kind)

@@ -63,7 +63,7 @@ def main():
     with open(texts, "wb") as out, open(said, "w") as lines:
         for _ in range(int(count)):
             c = random_circuit(rng)
-            data = aiger.write(c, random_tail(rng, c))
+            data = rng.choice([aiger.write, aiger.write_text])(c, random_tail(rng, c))
             if rng.random() < 0.6:
                 data = spoiled(rng, data)
             out.write(struct.pack("<I", len(data)) + data)

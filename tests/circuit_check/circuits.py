@@ -104,7 +104,7 @@ def main():
         runs = Runs(program, folder)
         for _ in range(count):
             c = cases.random_circuit(rng)
-            data = aiger.write(c, cases.random_tail(rng, c))
+            data = rng.choice([aiger.write, aiger.write_text])(c, cases.random_tail(rng, c))
             runs.text(cases.spoiled(rng, data) if rng.random() < 0.6 else data)
         for _ in range(count):
             inputs, outputs = rng.randrange(5), rng.randrange(1, 3)

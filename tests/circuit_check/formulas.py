@@ -40,6 +40,33 @@ def same(one, other):
     return [*clauses, [first + k + 1 for k in range(len(one.outputs))]]
 
 
+def safe(machine, invariant):
+    """Three formulas. Gates of the invariant follow the machine's, and the variables of the next step follow all of these."""
+    states, own = machine.inputs + len(machine.latches), len(machine.gates)
+    last = states + own + len(invariant.gates)
+
+    def place(lit):
+        return lit if lit // 2 <= states else lit + 2 * own
+
+    def later(lit):
+        return lit if lit < 2 else lit + 2 * last
+
+    holds = place(invariant.outputs[0])
+    circuit = [[-1], *gates(machine), *gates(invariant, place)]
+    resets = [[number(lit if reset else lit ^ 1)] for lit, _, reset in machine.latches if reset is not None]
+    copy = [*gates(machine, later), *gates(invariant, lambda lit: later(place(lit)))]
+    latches = []
+    for lit, follows, _ in machine.latches:
+        x, y = number(later(lit)), number(follows)
+        latches += [[-x, y], [x, -y]]
+    granted = [[number(lit)] for lit in machine.constraints]
+    return (
+        [*circuit, *resets, [-number(holds)]],
+        [*circuit, *copy, *latches, *granted, [number(holds)], [-number(later(holds))]],
+        [*circuit, *granted, [number(holds)], [number(lit) for lit in machine.bad or machine.outputs]],
+    )
+
+
 def text(clauses):
     """The formula as DIMACS text."""
     count = max((abs(lit) for clause in clauses for lit in clause), default=0)

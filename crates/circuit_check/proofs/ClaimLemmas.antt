@@ -1,18 +1,25 @@
 -- What a refuted formula says of the texts of its circuits.
-use Rattle.std.proofs.Common.{◌≡◌, ℕ, List, Option, Some, Result, Ok, sym}
-use Rattle.std.specs.Prelude.{IfOk}
+use Rattle.std.proofs.Common.{◌≡◌, ℕ, ◌+◌, ◌*◌, List, ◌++◌, Option, Some, Result, Ok, Err, ap, sym, ◌∙◌}
+use Rattle.std.specs.Prelude.{IfOk, OnOk}
 use Rattle.cube_rules.specs.Cubes.{IsRefuted}
 use Rattle.circuit_rules.specs.Checks.{never_clauses, same_clauses}
+use Rattle.circuit_rules.specs.Circuits.{Gate}
+use Rattle.circuit_rules.specs.Safety.{IsSafe, bad_clauses, first_clauses, stay_clauses}
 use Rattle.circuit_rules.proofs.Simulation.{never_is_shown}
 use Rattle.circuit_rules.proofs.Joined.{same_is_shown}
+use Rattle.circuit_rules.proofs.Invariants.{safe_is_shown}
 use Rattle.circuit_text.specs.Aigers.{Outcome, Says, outcome_of}
+use Rattle.circuit_text.specs.declared.circuit.Circuit as read
 use Rattle.circuit_text.specs.Circuits.{circuit_of}
 use Rattle.circuit_text.specs.Reading.{IsOutcome}
+use Rattle.circuit_clauses.specs.declared.induction.Induction.{Induction}
+use Rattle.circuit_clauses.specs.declared.induction.Part.TheVariants.{Initial, Step, Bad}
 use Rattle.circuit_clauses.specs.Formulas.{gates_in}
+use Rattle.circuit_clauses.specs.Machines.{IsInduction, machine_in, more_gates, part_clauses, size_of, states_in}
 use Rattle.verdicts.specs.declared.verdict.Verdict.{Verdict}
 use Rattle.verdicts.specs.declared.verdict.Verdict.TheVariants.{Verified}
 use Rattle.circuit_check.specs.declared.fault.CircuitFault.{CircuitFault}
-use Rattle.circuit_check.specs.Claims.{IsNeverFormula, IsNeverText, IsSameFormula, IsSameText}
+use Rattle.circuit_check.specs.Claims.{HaveWritten, IsAppended, IsInductionText, IsNeverFormula, IsNeverText, IsSafeText, IsSameFormula, IsSameText, RefutesAll}
 
 said_by : (known : Option (List ℕ)) (said : List ℕ) (o : Outcome) → known ≡ Some said → IsOutcome known o → outcome_of said ≡ o
 said_by known said o e h = rw e at h
@@ -46,6 +53,43 @@ same_text known known' said said' formula e e' h refuted =
           same_is_shown c.inputs h.has.d h.has.v (gates_in c) c.outputs.items (gates_in c') c'.outputs.items h.has.places
           (refuted_as formula (same_clauses c.inputs h.has.d h.has.v (gates_in c) c.outputs.items (gates_in c') c'.outputs.items) h.has.is refuted);
     }
+
+-- the formulas, as the law has them
+module _ (c c' : read.Circuit) (i : Induction) (h : IsInduction c c' i) where
+  abbrev all : List Gate
+  all = gates_in c ++ more_gates c c'
+
+  first_is : part_clauses i Initial ≡ first_clauses all (machine_in c) i.invariant
+  first_is = ap (λ gs. first_clauses gs (machine_in i.machine) i.invariant) h.gates ∙ ap (λ m. first_clauses all (machine_in m) i.invariant) h.machine
+
+  stay_is : part_clauses i Step ≡ stay_clauses i.last all (machine_in c) i.invariant
+  stay_is = ap (λ gs. stay_clauses i.last gs (machine_in i.machine) i.invariant) h.gates ∙ ap (λ m. stay_clauses i.last all (machine_in m) i.invariant) h.machine
+
+  bad_is : part_clauses i Bad ≡ bad_clauses all (machine_in c) i.invariant
+  bad_is = ap (λ gs. bad_clauses gs (machine_in i.machine) i.invariant) h.gates ∙ ap (λ m. bad_clauses all (machine_in m) i.invariant) h.machine
+
+  safe_machine : RefutesAll i → IsSafe (machine_in c)
+  safe_machine refuted =
+      safe_is_shown (states_in c) (states_in c + 1 + size_of c) i.last (2 * i.last + 1) (machine_in c) (more_gates c c') i.invariant h.places
+      (refuted_as (part_clauses i Initial) (first_clauses all (machine_in c) i.invariant) first_is refuted.initial)
+      (refuted_as (part_clauses i Step) (stay_clauses i.last all (machine_in c) i.invariant) stay_is refuted.step)
+      (refuted_as (part_clauses i Bad) (bad_clauses all (machine_in c) i.invariant) bad_is refuted.bad)
+
+pub safe_text : (known known' : Option (List ℕ)) (said : List ℕ) (i : Induction) → known ≡ Some said → IsInductionText known known' i → RefutesAll i → IsSafeText said
+safe_text known known' said i e h refuted =
+    let c = h.circuit in
+    record {
+      circuit = circuit_of c;
+      says = said_by known said (Says (circuit_of c)) e h.says;
+      safe = safe_machine c h.circuit' i h.is refuted;
+    }
+
+-- all three formulas were written, where the last one was
+pub all_written : (r : Result (Unit {0}) CircuitFault) (known known' a a' b b' d d' : Option (List ℕ)) (i : Induction) → IsInductionText known known' i →
+    IsAppended a a' (part_clauses i Initial) → IsAppended b b' (part_clauses i Step) → OnOk r (IsAppended d d' (part_clauses i Bad)) →
+    OnOk r (HaveWritten known known' a a' b b' d d')
+all_written (Ok u) known known' a a' b b' d d' i h initial step bad = record { induction = i; is = h; initial_is = initial; step_is = step; bad_is = bad }
+all_written (Err e) known known' a a' b b' d d' i h initial step bad = tt
 
 -- the verdict that was written is the one that was found
 pub written_is : (r : Result Verdict CircuitFault) (v : Verdict) → IfOk r (λ w. w ≡ v) → r ≡ Ok Verified → v ≡ Verified

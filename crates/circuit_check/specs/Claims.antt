@@ -1,15 +1,21 @@
 -- What a verdict on circuits claims of their texts.
 --     IsNeverText text      the text says a circuit that is never true
 --     IsSameText text text'      both texts say circuits, which are the same
+--     IsSafeText text      the text says a machine that is safe
 use Rattle.std.specs.Prelude.{◌≡◌, ℕ, List, [], Option}
 use Rattle.std.specs.Io.KnownBytes.{Appends}
 use Rattle.sat_output.specs.FormulaTexts.{formula_text}
+use Rattle.cube_rules.specs.Cubes.{IsRefuted}
 use Rattle.circuit_rules.specs.Checks.{AreSame, IsNever}
+use Rattle.circuit_rules.specs.Safety.{IsSafe}
 use Rattle.circuit_text.specs.Aigers.{Says, outcome_of}
 use Rattle.circuit_text.specs.declared.circuit.Circuit as read
 use Rattle.circuit_text.specs.Circuits.{Circuit, circuit_of}
 use Rattle.circuit_text.specs.Reading.{IsRead}
+use Rattle.circuit_clauses.specs.declared.induction.Induction.{Induction}
+use Rattle.circuit_clauses.specs.declared.induction.Part.TheVariants.{Initial, Step, Bad}
 use Rattle.circuit_clauses.specs.Formulas.{HasNever, HasSame}
+use Rattle.circuit_clauses.specs.Machines.{IsInduction, machine_of, part_clauses}
 
 -- a circuit of gates and outputs alone
 pub record IsCombinational (c : Circuit) : Type 0 where
@@ -35,6 +41,12 @@ pub record IsSameText (text text' : List ℕ) : Type 0 where
   pub inputs : circuit.inputs ≡ circuit'.inputs
   pub same : AreSame circuit.gates circuit.outputs circuit'.gates circuit'.outputs
 
+-- the text says a machine, no run of which makes a bad output true; all outputs are bad, where none is named
+pub record IsSafeText (text : List ℕ) : Type 0 where
+  pub circuit : Circuit
+  pub says : outcome_of text ≡ Says circuit
+  pub safe : IsSafe (machine_of circuit)
+
 -- ---- formulas
 
 -- the formula of a text that says such a circuit
@@ -54,8 +66,35 @@ pub record IsSameFormula (known known' : Option (List ℕ)) (formula : List (Lis
   pub shape' : IsCombinational (circuit_of circuit')
   pub has : HasSame circuit circuit' formula
 
+-- a text says a machine, and another one an invariant
+pub record IsInductionText (known known' : Option (List ℕ)) (induction : Induction) : Type 0 where
+  pub circuit : read.Circuit
+  pub circuit' : read.Circuit
+  pub says : IsRead known circuit
+  pub says' : IsRead known' circuit'
+  pub is : IsInduction circuit circuit' induction
+
+-- all three formulas are refuted
+pub record RefutesAll (induction : Induction) : Type 0 where
+  pub initial : IsRefuted (part_clauses induction Initial)
+  pub step : IsRefuted (part_clauses induction Step)
+  pub bad : IsRefuted (part_clauses induction Bad)
+
+-- a formula was written, as DIMACS text
+abbrev pub IsAppended : Option (List ℕ) → Option (List ℕ) → List (List ℕ) → Type 0
+IsAppended old new formula = Appends old new (formula_text formula)
+
 -- such a formula was written, as DIMACS text
 pub record HasWritten (IsFormula : List (List ℕ) → Type 0) (old new : Option (List ℕ)) : Type 0 where
   pub formula : List (List ℕ)
   pub is : IsFormula formula
   pub appends : Appends old new (formula_text formula)
+
+-- the three formulas of a machine and an invariant were written, one to each output
+pub record HaveWritten (known known' : Option (List ℕ)) (initial initial' step step' bad bad' : Option (List ℕ)) :
+    Type 0 where
+  pub induction : Induction
+  pub is : IsInductionText known known' induction
+  pub initial_is : IsAppended initial initial' (part_clauses induction Initial)
+  pub step_is : IsAppended step step' (part_clauses induction Step)
+  pub bad_is : IsAppended bad bad' (part_clauses induction Bad)

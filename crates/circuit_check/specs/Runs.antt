@@ -4,7 +4,7 @@
 use Rattle.std.specs.Prelude.{Result, Ok, Err}
 use Rattle.verdicts.specs.declared.verdict.Verdict.{Verdict}
 use Rattle.circuit_check.specs.declared.fault.CircuitFault.{CircuitFault}
-use Rattle.circuit_check.specs.declared.fault.CircuitFault.TheVariants.{Unread, OtherUnread, Sequential, NoFormula, Proof, Formula, Write}
+use Rattle.circuit_check.specs.declared.fault.CircuitFault.TheVariants.{Unread, OtherUnread, Sequential, NoFormula, Proof, InitialProof, StepProof, BadProof, Formula, Write}
 
 -- no line of a verdict was begun
 abbrev pub IsSilent : Result Verdict CircuitFault → Type 0
@@ -14,6 +14,9 @@ IsSilent (Err (OtherUnread fault)) = Unit {0}
 IsSilent (Err Sequential) = Unit {0}
 IsSilent (Err (NoFormula fault)) = Unit {0}
 IsSilent (Err (Proof fault)) = Unit {0}
+IsSilent (Err (InitialProof fault)) = Unit {0}
+IsSilent (Err (StepProof fault)) = Unit {0}
+IsSilent (Err (BadProof fault)) = Unit {0}
 IsSilent (Err (Formula cause)) = Unit {0}
 IsSilent (Err (Write cause)) = ⊥
 
@@ -25,5 +28,8 @@ IsWritten (Err (OtherUnread fault)) = ⊥
 IsWritten (Err Sequential) = ⊥
 IsWritten (Err (NoFormula fault)) = ⊥
 IsWritten (Err (Proof fault)) = ⊥
+IsWritten (Err (InitialProof fault)) = ⊥
+IsWritten (Err (StepProof fault)) = ⊥
+IsWritten (Err (BadProof fault)) = ⊥
 IsWritten (Err (Formula cause)) = ⊥
 IsWritten (Err (Write cause)) = Unit {0}

@@ -11,7 +11,7 @@ pub enum CircuitFault {
     /// The circuit, or the first one of two, was not read.
     #[error("circuit: {0}")]
     Unread(AigerFault),
-    /// The second circuit was not read.
+    /// The second circuit, or the invariant, was not read.
     #[error("second circuit: {0}")]
     OtherUnread(AigerFault),
     /// A circuit has latches, bad outputs or constraints.
@@ -23,6 +23,15 @@ pub enum CircuitFault {
     /// There is no verdict on the proof.
     #[error("{0}")]
     Proof(RunFault),
+    /// There is no verdict on the proof that the invariant is true at first.
+    #[error("initial states: {0}")]
+    InitialProof(RunFault),
+    /// There is no verdict on the proof that the invariant stays true.
+    #[error("step: {0}")]
+    StepProof(RunFault),
+    /// There is no verdict on the proof that the invariant excludes bad outputs.
+    #[error("bad outputs: {0}")]
+    BadProof(RunFault),
     /// The formula could not be written.
     #[error("error writing: {0}")]
     Formula(io::Error),

@@ -1,5 +1,5 @@
-//! Whether a proof shows that a circuit is never true, or that two circuits are the same, said in
-//! one line.
+//! Whether a proof shows that a circuit is never true, or that two circuits are the same, or proofs
+//! that a machine is safe, said in one line.
 //!
 //! The formula is made of the circuits' texts, and the proof is checked against it.
 #![tactic(auto)]
@@ -8,6 +8,7 @@ mod fault;
 mod formulas;
 mod line;
 mod run;
+mod safe;
 mod shape;
 
 pub use circuit_clauses::ClausesFault;
@@ -15,3 +16,4 @@ pub use drat_check::{ProofFormat, Verdict, exit_status};
 pub use fault::CircuitFault;
 pub use line::Claim;
 pub use run::{run_never, run_same, write_never, write_same};
+pub use safe::{PartProofs, run_safe, write_safe};

@@ -11,6 +11,8 @@ pub enum Claim {
     Never,
     /// Two circuits have the same outputs for the same input.
     Same,
+    /// No run of a machine makes a bad output true.
+    Safe,
 }
 
 impl Claim {
@@ -23,6 +25,7 @@ impl Claim {
             Verdict::Verified => match self {
                 Claim::Never => b"s VERIFIED NEVER\n",
                 Claim::Same => b"s VERIFIED SAME\n",
+                Claim::Safe => b"s VERIFIED SAFE\n",
             },
         }
     }

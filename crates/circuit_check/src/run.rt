@@ -14,7 +14,7 @@ use crate::formulas::{read_never, read_same};
 use crate::line::Claim;
 use crate::shape::is_combinational;
 use circuit_clauses::{never_formula, same_formula};
-use drat_check::{LineForm, Outputs, ProofFormat, RunCounts, Verdict, run_proof};
+use drat_check::{LineForm, Outputs, ProofFormat, RunCounts, RunFault, Verdict, run_proof};
 use log::Log;
 use sat_formula::CnfFormula;
 use sat_output::write_formula;
@@ -26,6 +26,14 @@ use whole_writes::write_whole;
 
 /// Reads a circuit, checks a proof that no input makes an output true, and writes the verdict's
 /// line.
+///
+/// Returns whether the proof shows it.
+///
+/// # Errors
+///
+/// `Unread` if the circuit can't be read, `Sequential` if it has more than gates, `NoFormula` if
+/// there is no formula of it, `Proof` if the proof is rejected or can't be read. `Write` if the
+/// line could not be written whole.
 pub fn run_never<R: Log, A: Read + Drop, P: Read + Drop, W: Write>(
     rt: &R,
     alloc: Global,
@@ -53,6 +61,13 @@ pub fn run_never<R: Log, A: Read + Drop, P: Read + Drop, W: Write>(
 
 /// Reads two circuits, checks a proof that they have the same outputs for the same input, and
 /// writes the verdict's line. Inputs and outputs are compared in their order.
+///
+/// Returns whether the proof shows it.
+///
+/// # Errors
+///
+/// As `run_never`; also `OtherUnread` if the second circuit can't be read, and `NoFormula` if they
+/// have not as many inputs or outputs.
 pub fn run_same<R: Log, A: Read + Drop, B: Read + Drop, P: Read + Drop, W: Write>(
     rt: &R,
     alloc: Global,
@@ -81,6 +96,11 @@ pub fn run_same<R: Log, A: Read + Drop, B: Read + Drop, P: Read + Drop, W: Write
 }
 
 /// Reads a circuit, and writes the formula that is refuted if the circuit is never true.
+///
+/// # Errors
+///
+/// `Unread`, `Sequential` and `NoFormula` as `run_never`, with nothing written; `Formula` if it
+/// could not be written whole.
 pub fn write_never<A: Read + Drop, W: Write>(
     alloc: Global,
     text: A,
@@ -96,6 +116,10 @@ pub fn write_never<A: Read + Drop, W: Write>(
 }
 
 /// Reads two circuits, and writes the formula that is refuted if they are the same.
+///
+/// # Errors
+///
+/// As `write_never`, and those of `run_same` for the second circuit.
 pub fn write_same<A: Read + Drop, B: Read + Drop, W: Write>(
     alloc: Global,
     text: A,
@@ -112,7 +136,7 @@ pub fn write_same<A: Read + Drop, B: Read + Drop, W: Write>(
 }
 
 /// Writes a formula as DIMACS text.
-fn write_text<W: Write>(
+pub(crate) fn write_text<W: Write>(
     alloc: Global,
     formula: &CnfFormula,
     out: &mut W,
@@ -137,6 +161,22 @@ fn judge<R: Log, P: Read + Drop>(
     ensures refutes { result ≡ Ok Verified → IsRefuted formula.now }
     ensures early { IfErr result (λ fault. IsSilent (Err fault)) }
 {
+    match check_proof(rt, alloc, formula, proof, format) {
+        Ok(verdict) => Ok(verdict),
+        Err(fault) => Err(CircuitFault::Proof(fault)),
+    }
+}
+
+/// Checks a proof of a formula, and writes nothing.
+pub(crate) fn check_proof<R: Log, P: Read + Drop>(
+    rt: &R,
+    alloc: Global,
+    formula: &CnfFormula,
+    proof: P,
+    format: ProofFormat,
+) -> Result<Verdict, RunFault>
+    ensures { result ≡ Ok Verified → IsRefuted formula.now }
+{
     let mut outputs: Outputs<Sink, Sink> = Outputs {
         lrat: None,
         form: LineForm::Text,
@@ -144,7 +184,7 @@ fn judge<R: Log, P: Read + Drop>(
         core: None,
         counts: Cell::new(RunCounts::default()),
     };
-    match run_proof(
+    run_proof(
         rt,
         alloc,
         formula,
@@ -152,14 +192,11 @@ fn judge<R: Log, P: Read + Drop>(
         format,
         &mut outputs,
         &mut io::sink(),
-    ) {
-        Ok(verdict) => Ok(verdict),
-        Err(fault) => Err(CircuitFault::Proof(fault)),
-    }
+    )
 }
 
 /// Writes the line of a verdict.
-fn write_verdict<W: Write>(
+pub(crate) fn write_verdict<W: Write>(
     out: &mut W,
     claim: Claim,
     verdict: Verdict,

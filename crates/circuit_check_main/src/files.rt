@@ -66,11 +66,11 @@ pub(crate) fn write_files<'a>(
     }
 }
 
-fn open<'a>(rt: &HostRuntime, name: &'a str) -> Result<Input<'a>, u8> {
+pub(crate) fn open<'a>(rt: &HostRuntime, name: &'a str) -> Result<Input<'a>, u8> {
     open_file(rt, name).ok_or(NOT_RUN)
 }
 
-fn create<'a>(
+pub(crate) fn create<'a>(
     files: &mut WrittenFiles<'a>,
     name: &'a str,
     inputs: &[&Input<'_>],

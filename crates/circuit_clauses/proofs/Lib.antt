@@ -1,1 +1,2 @@
 pub mod ClauseLemmas
+pub mod MachineLemmas

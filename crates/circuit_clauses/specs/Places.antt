@@ -9,10 +9,10 @@ use Rattle.circuit_clauses.specs.Formulas.{gates_in}
 -- the places for these numbers of inputs and of gates of both circuits
 abbrev pub HasCounts : ℕ → ℕ → ℕ → Places → Type 0
 HasCounts n gates gates' p =
-    (p.inputs ≡ n) × (p.shift ≡ gates) × (p.differences ≡ n + 1 + gates + gates')
+    (p.shift.inputs ≡ n) × (p.shift.distance ≡ gates) × (p.differences ≡ n + 1 + gates + gates')
 
 -- the places of two circuits
 pub record HasPlaces (c c' : Circuit) (p : Places) : Type 0 where
-  pub inputs : p.inputs ≡ c.inputs
+  pub inputs : p.shift.inputs ≡ c.inputs
   pub as_many : c.inputs ≡ c'.inputs
-  pub places : HavePlaces p.inputs p.shift p.differences (gates_in c) c.outputs.items (gates_in c') c'.outputs.items
+  pub places : HavePlaces p.shift.inputs p.shift.distance p.differences (gates_in c) c.outputs.items (gates_in c') c'.outputs.items

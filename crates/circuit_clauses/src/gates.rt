@@ -1,9 +1,12 @@
 //! The clauses of gates.
 ghost use Rattle.std.specs.Prelude.{◌≡◌, [], ◌∷◌, ◌++◌, map, OnOk};
-ghost use Rattle.circuit_rules.specs.Circuits.{circuit_clauses, gate_clauses, lit_of};
+ghost use Rattle.circuit_rules.specs.Checks.{moved_gate};
+ghost use Rattle.circuit_rules.specs.Circuits.{circuit_clauses, gate_clauses, gates_clauses, lit_of};
 ghost use Rattle.sat_rules.specs.Clauses.{var_of};
 ghost use Rattle.circuit_text.specs.Circuits.{gate_of};
 
+use crate::fault::ClausesFault;
+use crate::shift::Shift;
 use circuit_text::Gate;
 use sat_formula::{CnfFormula, Lit};
 use std::alloc::AllocError;
@@ -22,6 +25,21 @@ pub(crate) fn add_circuit(formula: &mut CnfFormula, gates: &[Gate]) -> Result<()
     Ok(())
 }
 
+/// Adds the clauses of gates that are further on.
+pub(crate) fn add_moved(
+    formula: &mut CnfFormula,
+    shift: Shift,
+    gates: &[Gate],
+) -> Result<(), ClausesFault>
+    ensures { OnOk result (formula.new ≡ formula.old
+        ++ gates_clauses (map (moved_gate shift.inputs shift.distance) (map gate_of gates.now))) }
+{
+    for gate in gates {
+        add_gate(formula, shift.moved_gate(*gate)?)?;
+    }
+    Ok(())
+}
+
 /// Adds the clauses of a gate: it implies each of its literals, and both together imply it.
 #[tactic(auto, using(crate::proofs::ClauseLemmas::three_more))]
 pub(crate) fn add_gate(formula: &mut CnfFormula, gate: Gate) -> Result<(), AllocError>
@@ -35,7 +53,7 @@ pub(crate) fn add_gate(formula: &mut CnfFormula, gate: Gate) -> Result<(), Alloc
 }
 
 /// Returns the positive literal of a literal's variable.
-fn positive(lit: Lit) -> Lit
+pub(crate) fn positive(lit: Lit) -> Lit
     ensures { result ≡ lit_of (var_of lit) }
 {
     lit.var().lit(true)

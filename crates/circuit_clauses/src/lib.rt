@@ -1,15 +1,21 @@
-//! The formulas of circuits: one that is never true, and two that are the same.
+//! The formulas of circuits: one that is never true, two that are the same, and a machine that an
+//! invariant shows to be safe.
 //!
 //! Source: Tseitin, On the complexity of derivation in propositional calculus, 1968.
 #![tactic(auto)]
 
+mod counts;
 mod fault;
 mod gates;
+mod induction;
+mod latches;
 mod never;
 mod order;
 mod places;
 mod same;
+mod shift;
 
 pub use fault::ClausesFault;
+pub use induction::{Induction, Part};
 pub use never::never_formula;
 pub use same::same_formula;

@@ -2,10 +2,12 @@
 ghost use Rattle.std.specs.Prelude.{◌≡◌, ◌<◌, ◌^◌, map};
 ghost use Rattle.circuit_rules.specs.Checks.{gates_below, lits_below};
 ghost use Rattle.circuit_rules.specs.Circuits.{are_ordered};
+ghost use Rattle.circuit_rules.specs.Safety.{latches_below};
 ghost use Rattle.circuit_clauses.specs.Formulas.{is_next};
-ghost use Rattle.circuit_text.specs.Circuits.{gate_of};
+ghost use Rattle.circuit_clauses.specs.Machines.{is_latch_below};
+ghost use Rattle.circuit_text.specs.Circuits.{gate_of, latch_of};
 
-use circuit_text::Gate;
+use circuit_text::{Gate, Latch};
 use sat_formula::Lit;
 
 /// Whether each gate has a variable from `first` on, reads variables before its own, and comes
@@ -49,4 +51,25 @@ pub(crate) fn lits_below(shift: usize, limit: usize, lits: &[Lit]) -> bool
     ensures { result ≡ lits_below shift limit lits.now }
 {
     lits.iter().all(|lit| lit.index() + shift < limit)
+}
+
+/// Whether the variable of each latch is among the first ones, this many, and that of its next
+/// literal below a limit.
+pub(crate) fn latches_below(states: usize, limit: usize, latches: &[Latch]) -> bool
+    ensures { result ≡ latches_below states limit (map latch_of latches.now) }
+{
+    for latch in latches {
+        if !is_below(states, limit, *latch) {
+            return false;
+        }
+    }
+    true
+}
+
+/// Whether this is so of one latch.
+fn is_below(states: usize, limit: usize, latch: Latch) -> bool
+    ensures { result ≡ is_latch_below states limit (latch_of latch) }
+{
+    let place = latch.output.index();
+    0 < place && place <= states && latch.next.index() < limit
 }

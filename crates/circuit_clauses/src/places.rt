@@ -1,22 +1,20 @@
 //! The variables of two circuits in one formula.
-ghost use Rattle.std.specs.Prelude.{◌≡◌, ◌+◌, ◌*◌, ◌<◌, ◌≤◌, ◌^◌, IfOk, suc, true};
+ghost use Rattle.std.specs.Prelude.{◌≡◌, ◌+◌, ◌*◌, IfOk};
 ghost use Rattle.circuit_clauses.specs.Places.{HasCounts, HasPlaces};
-ghost use Rattle.circuit_rules.specs.Checks.{gates_below, lits_below, moved, moved_gate};
-ghost use Rattle.circuit_text.specs.Circuits.{gate_of};
 
 use crate::fault::ClausesFault;
 use crate::order::{are_ordered, gates_below, lits_below};
-use circuit_text::{Circuit, Gate};
+use crate::shift::Shift;
+use circuit_text::Circuit;
 use sat_formula::{Lit, Var};
 
 /// The inputs of both circuits are the variables from 1 on. Those of the first circuit's gates
 /// follow, then those of the second one's, and then those of the differences between outputs.
 #[derive(Drop)]
 pub(crate) struct Places {
-    /// How many inputs each circuit has.
-    inputs: u32,
-    /// By how much the second circuit's gates are further on: how many gates the first one has.
-    shift: u32,
+    /// The inputs stay, and the second circuit's gates are further on: by how many gates the first
+    /// one has.
+    pub(crate) shift: Shift,
     /// The variable of the first difference.
     differences: u32,
 }
@@ -41,7 +39,7 @@ impl Places {
         if !are_ordered(first, &one.gates) || !are_ordered(first, &other.gates) {
             return Err(ClausesFault::Unordered);
         }
-        let (shift, last) = (places.shift as usize, places.differences as usize);
+        let (shift, last) = (places.shift.distance as usize, places.differences as usize);
         let limit = first + shift;
         if !gates_below(0, limit, &one.gates) || !lits_below(0, limit, &one.outputs) {
             return Err(ClausesFault::OutOfRange);
@@ -65,50 +63,11 @@ impl Places {
             return Err(ClausesFault::TooLarge);
         }
         Ok(Places {
-            inputs,
-            shift: gates as u32,
+            shift: Shift {
+                inputs,
+                distance: gates as u32,
+            },
             differences: (inputs as usize + 1 + gates + others) as u32,
-        })
-    }
-
-    /// Returns a literal of the second circuit in the formula.
-    ///
-    /// # Errors
-    ///
-    /// If the formula can't have its variable.
-    pub(crate) fn moved(&self, lit: Lit) -> Result<Lit, ClausesFault>
-        ensures { IfOk result (λ l. l ≡ moved self.now.inputs self.now.shift lit) }
-    {
-        if lit.index() <= self.inputs as usize {
-            Ok(lit)
-        } else {
-            self.far(lit)
-        }
-    }
-
-    /// Returns the literal whose variable is further on.
-    fn far(&self, lit: Lit) -> Result<Lit, ClausesFault>
-        ensures { IfOk result (λ l. l ≡ lit + 2 * self.now.shift) }
-    {
-        match Lit::from_code(lit.code() + 2 * self.shift as usize) {
-            Some(far) => Ok(far),
-            None => Err(ClausesFault::TooLarge),
-        }
-    }
-
-    /// Returns a gate of the second circuit in the formula.
-    ///
-    /// # Errors
-    ///
-    /// If the formula can't have one of its variables.
-    pub(crate) fn moved_gate(&self, gate: Gate) -> Result<Gate, ClausesFault>
-        ensures { IfOk result (λ g. gate_of g ≡ moved_gate self.now.inputs self.now.shift
-            (gate_of gate)) }
-    {
-        Ok(Gate {
-            output: self.far(gate.output)?,
-            left: self.moved(gate.left)?,
-            right: self.moved(gate.right)?,
         })
     }
 

@@ -1,15 +1,13 @@
 //! The formula of two circuits that are the same.
-ghost use Rattle.std.specs.Prelude.{◌≡◌, [], ◌∷◌, ◌++◌, map, length, IfOk, OnOk};
+ghost use Rattle.std.specs.Prelude.{◌≡◌, [], ◌∷◌, ◌++◌, length, IfOk, OnOk};
 ghost use Rattle.sat_rules.specs.Clauses.{negate};
 ghost use Rattle.circuit_clauses.specs.Formulas.{HasSame};
-ghost use Rattle.circuit_rules.specs.Checks.{difference_clauses, differences, moved_gate};
-ghost use Rattle.circuit_rules.specs.Circuits.{gates_clauses};
-ghost use Rattle.circuit_text.specs.Circuits.{gate_of};
+ghost use Rattle.circuit_rules.specs.Checks.{difference_clauses, differences};
 
 use crate::fault::ClausesFault;
-use crate::gates::{add_circuit, add_gate};
+use crate::gates::{add_circuit, add_moved};
 use crate::places::Places;
-use circuit_text::{Circuit, Gate};
+use circuit_text::Circuit;
 use sat_formula::{CnfFormula, Lit};
 use std::alloc::{AllocError, Global};
 
@@ -31,7 +29,7 @@ pub fn same_formula(
     let mut formula = CnfFormula::new(alloc);
     let mut differ = Vec::new(alloc);
     add_circuit(&mut formula, &one.gates)?;
-    add_moved(&mut formula, &places, &other.gates)?;
+    add_moved(&mut formula, places.shift, &other.gates)?;
     add_differences(
         &mut formula,
         &places,
@@ -41,17 +39,6 @@ pub fn same_formula(
     )?;
     formula.add_clause(&differ)?;
     Ok(formula)
-}
-
-/// Adds the clauses of the second circuit's gates.
-fn add_moved(formula: &mut CnfFormula, places: &Places, gates: &[Gate]) -> Result<(), ClausesFault>
-    ensures { OnOk result (formula.new ≡ formula.old
-        ++ gates_clauses (map (moved_gate places.now.inputs places.now.shift) (map gate_of gates.now))) }
-{
-    for gate in gates {
-        add_gate(formula, places.moved_gate(*gate)?)?;
-    }
-    Ok(())
 }
 
 /// Adds the clauses of the differences between outputs, and the literals of the differences to a
@@ -66,8 +53,8 @@ fn add_differences(
     requires as_many { length outputs.now ≡ length others.now }
     requires empty { differ.old.items ≡ [] }
     ensures clauses { OnOk result (formula.new ≡ formula.old
-        ++ difference_clauses places.now.inputs places.now.shift places.now.differences
-        outputs.now others.now) }
+        ++ difference_clauses places.now.shift.inputs places.now.shift.distance
+        places.now.differences outputs.now others.now) }
     ensures differ { OnOk result (differ.new.items ≡ differences places.now.differences outputs.now) }
 {
     for index in 0..outputs.len() {
@@ -76,7 +63,7 @@ fn add_differences(
             formula,
             difference,
             outputs[index],
-            places.moved(others[index])?,
+            places.shift.moved(others[index])?,
         )?;
         add_literal(differ, difference)?;
     }

@@ -47,7 +47,7 @@ fn show_lits(shown: &mut Shown, before: &str, lits: &[Lit]) {
 
 type Row = (&'static [u8], &'static str);
 
-const CIRCUITS: [Row; 9] = [
+const CIRCUITS: [Row; 13] = [
     (b"aig 0 0 0 0 0\n", "i0"),
     (b"aig 3 2 0 1 1\n6\n\x02\x02", "i2 o6 6=4&2"),
     (b"aig 1 0 1 2 0\n3\n2\n3\n", "i0 l2<3 o2 o3"),
@@ -63,17 +63,50 @@ const CIRCUITS: [Row; 9] = [
         "i129 o260 260=4&0",
     ),
     (b"aig 1 1 0 0 0\ni0 c\nc\n", "i1"),
+    (b"aag 0 0 0 0 0\n", "i0"),
+    (b"aag 3 2 0 1 1\n2\n4\n6\n6 2 5\n", "i2 o6 6=2&5"),
+    (
+        b"aag 3 0 3 1 0 1 1\n2 3\n4 5 1\n6 6 6\n1\n2\n7\nl0 x\nc\n",
+        "i0 l2<3 l4<5+ l6<6? o1 b2 c7",
+    ),
+    (b"aag 2 0 0 1 2\n4\n2 0 1\n4 2 2\n", "i0 o4 2=0&1 4=2&2"),
 ];
 
-const FAULTS: [Row; 34] = [
+const FAULTS: [Row; 48] = [
     (b"", "line 1: the text ends too early"),
     (b"ai", "line 1: the text ends too early"),
     (b"aig 0 0 0 0 0", "line 1: the text ends too early"),
+    (b"aag", "line 1: the text ends too early"),
+    (b"aa", "line 1: the text ends too early"),
+    (b"aaig 0 0 0 0 0\n", "line 1: no header of an AIGER file"),
+    (b"abg 0 0 0 0 0\n", "line 1: no header of an AIGER file"),
+    (b"p cnf 0 0\n", "line 1: no header of an AIGER file"),
     (
-        b"aag 0 0 0 0 0\n",
-        "line 1: the text form of AIGER, which aigtoaig makes binary",
+        b"aag 1 1 0 0 0\n4\n",
+        "line 2: inputs, latches and gates are numbered in this order, as aigtoaig does it",
     ),
-    (b"p cnf 0 0\n", "line 1: no header of a binary AIGER file"),
+    (b"aag 1 1 0 0 0\n2 0\n", "line 2: malformed"),
+    (b"aag 1 1 0 0 0\n", "line 2: the text ends too early"),
+    (b"aag 1 0 1 0 0\n2\n", "line 2: malformed"),
+    (
+        b"aag 1 0 1 0 0\n3 2\n",
+        "line 2: inputs, latches and gates are numbered in this order, as aigtoaig does it",
+    ),
+    (b"aag 1 0 1 0 0\n2 4\n", "line 2: literal out of range"),
+    (
+        b"aag 3 1 0 0 2\n2\n6 2 2\n4 2 2\n",
+        "line 3: inputs, latches and gates are numbered in this order, as aigtoaig does it",
+    ),
+    (
+        b"aag 3 1 0 0 2\n2\n4 6 2\n6 2 2\n",
+        "line 3: a gate reads itself or a later gate, which aigtoaig puts in order",
+    ),
+    (
+        b"aag 2 1 0 0 1\n2\n4 2 5\n",
+        "line 3: a gate reads itself or a later gate, which aigtoaig puts in order",
+    ),
+    (b"aag 2 1 0 0 1\n2\n4 2 8\n", "line 3: literal out of range"),
+    (b"aag 2 1 0 0 1\n2\n4 2\n", "line 3: malformed"),
     (b"aig  0 0 0 0 0\n", "line 1: malformed"),
     (b"aig 0 0 0 0\n", "line 1: malformed"),
     (b"aig 0 0 0 0 0 \n", "line 1: malformed"),
@@ -144,11 +177,7 @@ type BrokenRow = (&'static [u8], usize, &'static str);
 
 const BROKEN: [BrokenRow; 2] = [
     (b"aig 0 0 0 0 0\n", 2, "error reading circuit: broken"),
-    (
-        b"aag 0 0 0 0 0\n",
-        2,
-        "line 1: the text form of AIGER, which aigtoaig makes binary",
-    ),
+    (b"abg 0 0 0 0 0\n", 2, "line 1: no header of an AIGER file"),
 ];
 
 /// What is shown of these bytes as they are read.

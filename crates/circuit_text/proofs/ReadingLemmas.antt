@@ -11,8 +11,8 @@ use Rattle.circuit_text.specs.declared.fault.Location.{Location}
 use Rattle.circuit_text.specs.declared.fault.Stop.{Stop}
 use Rattle.circuit_text.specs.declared.fault.Stop.TheVariants as stops
 use Rattle.circuit_text.specs.declared.spot.Spot.{Spot}
-use Rattle.circuit_text.specs.Aigers.{Outcome, Says, Faulty, Step, On, Off, step, at_end, outcome_at, outcome_of}
-use Rattle.circuit_text.specs.Circuits.{Circuit, circuit_of, no_circuit}
+use Rattle.circuit_text.specs.Aigers.{Outcome, Faulty, Step, On, Off, step, at_end, outcome_at, outcome_of}
+use Rattle.circuit_text.specs.Circuits.{Circuit, no_circuit}
 use Rattle.circuit_text.specs.Places.{start}
 use Rattle.circuit_text.specs.Reading.{IsOutcome, IsRead, Leads, IsTaken, FailsBy, Ends, fault_of}
 

@@ -1,4 +1,4 @@
--- What a text in the binary form of AIGER says: a circuit, or the first fault.
+-- What a text in AIGER says, in the binary or the text form: a circuit, or the first fault.
 --     outcome_of text      the circuit, or the fault and where it is
 use Rattle.std.specs.Prelude.{ℕ, List, [], ◌∷◌, if◌then◌else◌}
 use Rattle.circuit_text.specs.declared.fault.AigerKind.{AigerKind}

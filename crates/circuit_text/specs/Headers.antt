@@ -1,21 +1,29 @@
 -- The header of a circuit: M I L O A, and then B C J F or the first of them.
 --     header_with h field v      the header with a number, or why it has none such
+--     as_text h      the header of a text in the text form
 --     place_at h item      where the item of this number begins: a line of numbers, a gate, or what follows the gates
 --     lit_said h l, var_said h v      the literal of a code, of a variable, if the header has that variable
 use Rattle.std.specs.Prelude.{ℕ, ◌+◌, ◌-◌, ◌*◌, ◌^◌, Bool, true, false, ◌&&◌, Option, Some, None, Result, Ok, Err, nat_lt, nat_le, ◌==◌, if◌then◌else◌}
 use Rattle.sat_rules.specs.Clauses.{var_of}
 use Rattle.circuit_text.specs.declared.fault.AigerKind.{AigerKind}
 use Rattle.circuit_text.specs.declared.fault.AigerKind.TheVariants as kinds
+use Rattle.circuit_text.specs.declared.header.Form.{Form}
+use Rattle.circuit_text.specs.declared.header.Form.TheVariants as forms
 use Rattle.circuit_text.specs.declared.header.Header.{Header}
 use Rattle.circuit_text.specs.declared.header.Field.{Field}
 use Rattle.circuit_text.specs.declared.header.Field.TheVariants as fields
 use Rattle.circuit_text.specs.declared.spot.Line.TheVariants as lines
+use Rattle.circuit_text.specs.declared.spot.Own.TheVariants as owns
 use Rattle.circuit_text.specs.declared.spot.Place.{Place}
 use Rattle.circuit_text.specs.declared.spot.Place.TheVariants as places
 
 -- before the first number
 abbrev pub no_header : Header
-no_header = record { maximum = 0; inputs = 0; latches = 0; outputs = 0; gates = 0; bad = 0; constraints = 0 }
+no_header = record { form = forms.Binary; maximum = 0; inputs = 0; latches = 0; outputs = 0; gates = 0; bad = 0; constraints = 0 }
+
+-- the header of a text in the text form
+abbrev pub as_text : Header → Header
+as_text h = record h { form = forms.Text }
 
 -- the number after this one
 abbrev pub field_after : Field → Option Field
@@ -104,13 +112,38 @@ bad_lines h = output_lines h + h.bad
 abbrev pub all_lines : Header → ℕ
 all_lines h = bad_lines h + h.constraints
 
+-- the start of a latch; in the text form it begins with its own literal
+abbrev pub latch_place_in : Form → ℕ → Place
+latch_place_in forms.Binary variable = places.Line (lines.Latch variable) None
+latch_place_in forms.Text variable = places.Own owns.Latch variable None
+
+abbrev pub latch_place : Header → ℕ → Place
+latch_place h variable = latch_place_in h.form variable
+
+-- the start of a gate
+abbrev pub gate_place_in : Form → ℕ → Place
+gate_place_in forms.Binary variable = places.Left variable 0 1
+gate_place_in forms.Text variable = places.Own owns.Gate variable None
+
+abbrev pub gate_place : Header → ℕ → Place
+gate_place h variable = gate_place_in h.form variable
+
 -- the variables of latches follow those of inputs, and the variables of gates follow those of latches
-abbrev pub place_at : Header → ℕ → Place
-place_at h item =
-    if nat_lt item (latch_lines h) then places.Line (lines.Latch (h.inputs + 1 + item)) None
+abbrev pub place_of : Header → ℕ → Place
+place_of h item =
+    if nat_lt item (latch_lines h) then latch_place h (h.inputs + 1 + item)
     else (if nat_lt item (output_lines h) then places.Line lines.Output None
     else (if nat_lt item (bad_lines h) then places.Line lines.Bad None
     else (if nat_lt item (all_lines h) then places.Line lines.Constraint None
     else (if nat_lt item (all_lines h + h.gates)
-    then places.Left (h.inputs + h.latches + 1 + (item - all_lines h)) 0 1
+    then gate_place h (h.inputs + h.latches + 1 + (item - all_lines h))
     else places.LineStart))))
+
+-- in the text form a line for each input comes first
+abbrev pub place_in : Form → Header → ℕ → Place
+place_in forms.Binary h item = place_of h item
+place_in forms.Text h item =
+    if nat_lt item h.inputs then places.Own owns.Input (item + 1) None else place_of h (item - h.inputs)
+
+abbrev pub place_at : Header → ℕ → Place
+place_at h item = place_in h.form h item

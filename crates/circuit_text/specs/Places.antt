@@ -1,9 +1,11 @@
 -- The grammar of a circuit, a byte after the other: the header, a line for each latch, output, bad output and constraint,
--- two binary numbers for each gate, symbols, and a comment.
+-- two binary numbers for each gate, symbols, and a comment. In the text form inputs and gates are lines too, and each input,
+-- latch and gate begins with its own literal.
 --     after s b      what one byte does
 use Rattle.std.specs.Prelude.{ℕ, ◌+◌, ◌-◌, Bool, true, false, not, ◌&&◌, List, length, slice_index, codes, Option, Some, None, Result, Ok, Err, nat_lt, nat_le, ◌==◌, if◌then◌else◌}
 use Rattle.sat_formula.specs.Bytes.{is_lf, letter_c}
 use Rattle.sat_formula.specs.Outcome as dimacs
+use Rattle.circuit_text.specs.declared.circuit.Gate.{Gate}
 use Rattle.circuit_text.specs.declared.circuit.Item.{Item}
 use Rattle.circuit_text.specs.declared.circuit.Item.TheVariants.{OfLatch, OfOutput, OfBad, OfConstraint, OfGate}
 use Rattle.circuit_text.specs.declared.fault.AigerKind.{AigerKind}
@@ -19,12 +21,14 @@ use Rattle.circuit_text.specs.declared.number.Number.{Number}
 use Rattle.circuit_text.specs.declared.number.Number.TheVariants as numbers
 use Rattle.circuit_text.specs.declared.spot.Line as line_kinds
 use Rattle.circuit_text.specs.declared.spot.Line.TheVariants as lines
+use Rattle.circuit_text.specs.declared.spot.Own as own_kinds
+use Rattle.circuit_text.specs.declared.spot.Own.TheVariants as owns
 use Rattle.circuit_text.specs.declared.spot.Place.{Place}
-use Rattle.circuit_text.specs.declared.spot.Place.TheVariants.{Word, Head, Line, Reset, Left, Right, LineStart, AfterC, Position, Name, Comment}
+use Rattle.circuit_text.specs.declared.spot.Place.TheVariants.{Word, Head, Line, Reset, Own, First, Second, Left, Right, LineStart, AfterC, Position, Name, Comment}
 use Rattle.circuit_text.specs.declared.spot.Spot.{Spot}
 use Rattle.circuit_text.specs.declared.spot.After.{After}
 use Rattle.circuit_text.specs.declared.spot.After.TheVariants.{Next, Gives, Stops}
-use Rattle.circuit_text.specs.Headers.{field_after, header_with, lit_said, may_end, no_header, place_at, reset_said, symbols_of, var_said}
+use Rattle.circuit_text.specs.Headers.{as_text, field_after, header_with, lit_said, may_end, no_header, place_at, reset_said, symbols_of, var_said}
 use Rattle.circuit_text.specs.Numbers.{digits_after, number_after}
 
 -- the space, the only blank
@@ -41,6 +45,9 @@ is_done (Word read) = false
 is_done (Head field v) = false
 is_done (Line line v) = false
 is_done (Reset variable next v) = false
+is_done (Own own variable v) = false
+is_done (First variable v) = false
+is_done (Second variable left v) = false
 is_done (Left variable value weight) = false
 is_done (Right variable left value weight) = false
 is_done LineStart = true
@@ -55,6 +62,9 @@ location_at (Word read) line = locations.Line line
 location_at (Head field v) line = locations.Line line
 location_at (Line kind v) line = locations.Line line
 location_at (Reset variable next v) line = locations.Line line
+location_at (Own own variable v) line = locations.Line line
+location_at (First variable v) line = locations.Line line
+location_at (Second variable left v) line = locations.Line line
 location_at (Left variable value weight) line = locations.Gate variable
 location_at (Right variable left value weight) line = locations.Gate variable
 location_at LineStart line = locations.Line line
@@ -85,10 +95,10 @@ next_item s = let item = dimacs.next_line s.item in
 abbrev pub first_word : List ℕ
 first_word = codes "aig "
 
--- a byte of the first word; an `a` in the place of the `i` is that of the text form
+-- a byte of the first word; an `a` in the place of the `i` tells the text form
 abbrev pub in_word : Spot → ℕ → ℕ → After
 in_word s read b =
-    if (read == 1) && (b == 97) then Stops kinds.TextForm
+    if (read == 1) && (b == 97) then Next (moved (record s { header = as_text s.header }) (Word 2))
     else (if not (nat_lt read (length first_word) && (slice_index first_word read == b)) then Stops kinds.NoHeader
     else (if (read + 1) == length first_word then Next (moved s (Head Maximum None)) else Next (moved s (Word (read + 1)))))
 
@@ -207,6 +217,64 @@ in_right s variable left (numbers.Partial value weight) = Next (moved s (Right v
 in_right s variable left numbers.TooLong = Stops kinds.NumberTooLarge
 in_right s variable left (numbers.Whole less) = right_read s variable (lit_said s.header left) less
 
+-- ---- the text form
+
+-- the own literal of an input, a latch or a gate was read: an LF ends the line of an input
+abbrev pub own_said : Spot → own_kinds.Own → ℕ → ℕ → After
+own_said s owns.Input variable b = if is_lf b then Next (next_item (next_line s)) else Stops kinds.Malformed
+own_said s owns.Latch variable b =
+    if is_space b then Next (moved s (Line (lines.Latch variable) None)) else Stops kinds.Malformed
+own_said s owns.Gate variable b = if is_space b then Next (moved s (First variable None)) else Stops kinds.Malformed
+
+-- it is the literal of the next variable
+abbrev pub own_read : Spot → own_kinds.Own → ℕ → Result ℕ AigerKind → ℕ → ℕ → After
+own_read s own variable (Ok output) v b =
+    if v == output then own_said s own variable b else Stops kinds.OtherOrder
+own_read s own variable (Err kind) v b = Stops kind
+
+-- a byte of an own literal, or after it
+abbrev pub in_own : Spot → own_kinds.Own → ℕ → Digits → ℕ → After
+in_own s own variable (digits.More v) b = Next (moved s (Own own variable (Some v)))
+in_own s own variable digits.Missing b = Stops kinds.Malformed
+in_own s own variable (digits.Whole v) b = own_read s own variable (var_said s.header variable) v b
+
+-- the first literal of a gate is below its own
+abbrev pub first_said : Spot → ℕ → ℕ → ℕ → ℕ → After
+first_said s variable output left b =
+    if nat_le output left then Stops kinds.LaterGate
+    else (if is_space b then Next (moved s (Second variable left None)) else Stops kinds.Malformed)
+
+abbrev pub first_read : Spot → ℕ → Result ℕ AigerKind → Result ℕ AigerKind → ℕ → After
+first_read s variable (Ok output) (Ok left) b = first_said s variable output left b
+first_read s variable (Ok output) (Err kind) b = Stops kind
+first_read s variable (Err kind) left b = Stops kind
+
+-- a byte of the first literal of a gate, or after it
+abbrev pub in_first : Spot → ℕ → Digits → ℕ → After
+in_first s variable (digits.More v) b = Next (moved s (First variable (Some v)))
+in_first s variable digits.Missing b = Stops kinds.Malformed
+in_first s variable (digits.Whole v) b = first_read s variable (var_said s.header variable) (lit_said s.header v) b
+
+-- the second literal is below the gate's own, and an LF ends the line
+abbrev pub second_said : Spot → Gate → ℕ → After
+second_said s gate b =
+    if nat_le gate.output gate.right then Stops kinds.LaterGate
+    else (if is_lf b then item_read s (OfGate gate) else Stops kinds.Malformed)
+
+abbrev pub second_read : Spot → Result ℕ AigerKind → Result ℕ AigerKind → Result ℕ AigerKind → ℕ → After
+second_read s (Ok output) (Ok left) (Ok right) b =
+    second_said s (record { output = output; left = left; right = right }) b
+second_read s (Ok output) (Ok left) (Err kind) b = Stops kind
+second_read s (Ok output) (Err kind) right b = Stops kind
+second_read s (Err kind) left right b = Stops kind
+
+-- a byte of the second literal of a gate, or after it
+abbrev pub in_second : Spot → ℕ → ℕ → Digits → ℕ → After
+in_second s variable left (digits.More v) b = Next (moved s (Second variable left (Some v)))
+in_second s variable left digits.Missing b = Stops kinds.Malformed
+in_second s variable left (digits.Whole v) b =
+    second_read s (var_said s.header variable) (lit_said s.header left) (lit_said s.header v) b
+
 -- ---- symbols and the comment
 
 -- the position of a symbol was read: it is below this count, and a space follows
@@ -247,6 +315,9 @@ after_at (Word read) s b = in_word s read b
 after_at (Head field v) s b = in_header s field (digits_after v b) b
 after_at (Line kind v) s b = in_line s kind (digits_after v b) b
 after_at (Reset variable next v) s b = in_reset s variable next (digits_after v b) b
+after_at (Own own variable v) s b = in_own s own variable (digits_after v b) b
+after_at (First variable v) s b = in_first s variable (digits_after v b) b
+after_at (Second variable left v) s b = in_second s variable left (digits_after v b) b
 after_at (Left variable value weight) s b = in_left s variable (number_after value weight b)
 after_at (Right variable left value weight) s b = in_right s variable left (number_after value weight b)
 after_at LineStart s b = line_start s b

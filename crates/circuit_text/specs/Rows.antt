@@ -1,5 +1,5 @@
 -- What some texts say: a circuit, or a fault and where it is.
-use Rattle.std.specs.Prelude.{◌≡◌, List, [], ◌∷◌, ◌++◌, codes, Some, None, true, false}
+use Rattle.std.specs.Prelude.{◌≡◌, [], ◌∷◌, ◌++◌, codes, Some, None, true, false}
 use Rattle.circuit_text.specs.declared.fault.AigerKind.TheVariants as kinds
 use Rattle.circuit_text.specs.declared.fault.Location.TheVariants.{Line, Gate}
 use Rattle.circuit_text.specs.Aigers.{Says, Faulty, outcome_of}
@@ -34,7 +34,17 @@ pub record AigerRows : Type 0 where
     constraints = 3 ∷ [];
     gates = [];
   })
-  pub text_form : outcome_of (codes "aag 0 0 0 0 0\n") ≡ Faulty (Line 1) kinds.TextForm
+  -- the text form: an input, a latch and their conjunction
+  pub text : outcome_of (codes "aag 3 1 1 1 1\n2\n4 6 1\n6\n6 2 5\nl0 x\n") ≡ Says (record {
+    inputs = 1;
+    latches = record { var = 2; next = 6; reset = Some true } ∷ [];
+    outputs = 6 ∷ [];
+    bad = [];
+    constraints = [];
+    gates = record { var = 3; left = 2; right = 5 } ∷ [];
+  })
+  pub order : outcome_of (codes "aag 2 2 0 0 0\n4\n2\n") ≡ Faulty (Line 2) kinds.OtherOrder
+  pub later : outcome_of (codes "aag 3 1 0 0 2\n2\n4 2 6\n6 2 2\n") ≡ Faulty (Line 3) kinds.LaterGate
   pub no_header : outcome_of (codes "p cnf 0 0\n") ≡ Faulty (Line 1) kinds.NoHeader
   pub short : outcome_of (codes "aig 0 0 0 0\n") ≡ Faulty (Line 1) kinds.Malformed
   pub maximum : outcome_of (codes "aig 2 1 0 0 0\n") ≡ Faulty (Line 1) kinds.WrongMaximum

@@ -10,12 +10,9 @@ use thiserror::Error;
 /// What is wrong with the text of a circuit.
 #[derive(Clone, Copy, Debug, PartialEq, Eq, Error)]
 pub enum AigerKind {
-    /// The text does not begin with `aig` and a space.
-    #[error("no header of a binary AIGER file")]
+    /// The text does not begin with `aig` or `aag` and a space.
+    #[error("no header of an AIGER file")]
     NoHeader,
-    /// The text begins with `aag`.
-    #[error("the text form of AIGER, which aigtoaig makes binary")]
-    TextForm,
     /// A byte that the form does not have here.
     #[error("malformed")]
     Malformed,
@@ -41,6 +38,12 @@ pub enum AigerKind {
     /// first one.
     #[error("a gate reads literals below its own, the larger one first")]
     GateOrder,
+    /// In the text form, a literal of an input, latch or gate that is not the next one.
+    #[error("inputs, latches and gates are numbered in this order, as aigtoaig does it")]
+    OtherOrder,
+    /// In the text form, a gate that reads a literal that is not below its own.
+    #[error("a gate reads itself or a later gate, which aigtoaig puts in order")]
+    LaterGate,
     /// A symbol's position that is not below the count of its kind.
     #[error("symbol out of range")]
     SymbolOutOfRange,

@@ -24,6 +24,15 @@ impl Spot {
             Place::Reset(variable, next, digits) => {
                 self.in_reset(variable, next, digits_after(digits, byte), byte)
             }
+            Place::Own(own, variable, digits) => {
+                self.in_own(own, variable, digits_after(digits, byte), byte)
+            }
+            Place::First(variable, digits) => {
+                self.in_first(variable, digits_after(digits, byte), byte)
+            }
+            Place::Second(variable, left, digits) => {
+                self.in_second(variable, left, digits_after(digits, byte), byte)
+            }
             Place::Left(variable, value, weight) => {
                 self.in_left(variable, number_after(value, weight, byte))
             }
@@ -45,7 +54,8 @@ impl Spot {
     {
         let word = first_word();
         if read == 1 && byte == b'a' {
-            After::Stops(AigerKind::TextForm)
+            let header = self.header.as_text();
+            After::Next(Spot { header, ..self }.moved(Place::Word(2)))
         } else if read >= word.len() || word[read] != byte {
             After::Stops(AigerKind::NoHeader)
         } else if read + 1 == word.len() {
@@ -183,7 +193,7 @@ impl Spot {
     }
 
     /// After a line.
-    fn item_read(self, item: Item) -> After
+    pub(crate) fn item_read(self, item: Item) -> After
         ensures { result ≡ item_read self item }
     {
         After::Gives(item, self.next_line().next_item())

@@ -1,17 +1,28 @@
 //! Headers of circuits.
 ghost use Rattle.std.specs.Prelude.{◌≡◌};
-ghost use Rattle.circuit_text.specs.Headers.{field_after, header_with, lit_said, may_end, no_header, place_at, symbols_of, var_said, with_gates};
+ghost use Rattle.circuit_text.specs.Headers.{as_text, field_after, gate_place, header_with, latch_place, lit_said, may_end, no_header, place_at, place_of, symbols_of, var_said, with_gates};
 
 use crate::fault::AigerKind;
-use crate::spot::{Line, Place};
+use crate::spot::{Line, Own, Place};
 use sat_formula::Lit;
 
 /// The numbers of a header from this one on are too large.
 const LIMIT: u64 = 0x1000_0000;
 
-/// The counts of a header.
+/// The two forms of AIGER.
+#[derive(Clone, Copy)]
+pub(crate) enum Form {
+    /// Inputs, and the own variables of latches and gates, are not written; gates are binary
+    /// numbers.
+    Binary,
+    /// Each input, latch and gate is a line of numbers, of which the first is its own literal.
+    Text,
+}
+
+/// The form and the counts of a header.
 #[derive(Clone, Copy)]
 pub(crate) struct Header {
+    pub(crate) form: Form,
     pub(crate) maximum: u32,
     pub(crate) inputs: u32,
     pub(crate) latches: u32,
@@ -71,6 +82,7 @@ impl Header {
         ensures { result ≡ no_header }
     {
         Header {
+            form: Form::Binary,
             maximum: 0,
             inputs: 0,
             latches: 0,
@@ -78,6 +90,16 @@ impl Header {
             gates: 0,
             bad: 0,
             constraints: 0,
+        }
+    }
+
+    /// The header of a text in the text form.
+    pub(crate) fn as_text(self) -> Header
+        ensures { result ≡ as_text self }
+    {
+        Header {
+            form: Form::Text,
+            ..self
         }
     }
 
@@ -167,16 +189,27 @@ impl Header {
     }
 
     /// Where the item of this number begins: a line of numbers, a gate, or what follows the gates.
-    /// Items count from 0.
+    /// Items count from 0, and inputs are items in the text form.
     pub(crate) fn place(self, item: u64) -> Place
         ensures { result ≡ place_at self item }
+    {
+        match self.form {
+            Form::Binary => self.place_of(item),
+            Form::Text if item < self.inputs as u64 => Place::Own(Own::Input, item + 1, None),
+            Form::Text => self.place_of(item - self.inputs as u64),
+        }
+    }
+
+    /// The same, where inputs are no items.
+    fn place_of(self, item: u64) -> Place
+        ensures { result ≡ place_of self item }
     {
         let latches = self.latches as u64;
         let outputs = latches + self.outputs as u64;
         let bad = outputs + self.bad as u64;
         let lines = bad + self.constraints as u64;
         if item < latches {
-            Place::Line(Line::Latch(self.inputs as u64 + 1 + item), None)
+            self.latch_place(self.inputs as u64 + 1 + item)
         } else if item < outputs {
             Place::Line(Line::Output, None)
         } else if item < bad {
@@ -185,9 +218,29 @@ impl Header {
             Place::Line(Line::Constraint, None)
         } else if item < lines + self.gates as u64 {
             let before = self.inputs as u64 + latches + 1;
-            Place::Left(before + (item - lines), 0, 1)
+            self.gate_place(before + (item - lines))
         } else {
             Place::LineStart
+        }
+    }
+
+    /// Where the latch of this variable begins.
+    fn latch_place(self, variable: u64) -> Place
+        ensures { result ≡ latch_place self variable }
+    {
+        match self.form {
+            Form::Binary => Place::Line(Line::Latch(variable), None),
+            Form::Text => Place::Own(Own::Latch, variable, None),
+        }
+    }
+
+    /// Where the gate of this variable begins.
+    fn gate_place(self, variable: u64) -> Place
+        ensures { result ≡ gate_place self variable }
+    {
+        match self.form {
+            Form::Binary => Place::Left(variable, 0, 1),
+            Form::Text => Place::Own(Own::Gate, variable, None),
         }
     }
 }

@@ -1,4 +1,4 @@
-//! Circuits in the binary form of AIGER: inputs, latches, outputs, bad outputs, constraints and and
+//! Circuits in AIGER, binary or text: inputs, latches, outputs, bad outputs, constraints and and
 //! gates.
 //!
 //! Source: Biere, Heljanko, Wieringa, AIGER 1.9 and beyond, 2011.
@@ -12,6 +12,7 @@ mod laws;
 mod number;
 mod reader;
 mod spot;
+mod text_form;
 
 pub use circuit::{Circuit, Gate, Latch};
 pub use fault::{AigerFault, AigerKind, Location};

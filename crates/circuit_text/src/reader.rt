@@ -11,7 +11,8 @@ use sat_formula::source::{NoByte, Source};
 use std::alloc::Global;
 use std::io::Read;
 
-/// Reads a circuit in the binary form of AIGER whole, or returns its first fault.
+/// Reads a circuit in AIGER whole, or returns its first fault. The first word tells the form: `aig`
+/// is the binary one, and `aag` the text form, with variables numbered as in the binary one.
 ///
 /// The header counts the maximal variable, inputs, latches, outputs and gates, and then bad
 /// outputs and constraints, which may be left out. The words of a line have one space between

@@ -16,6 +16,14 @@ pub(crate) enum Line {
     Constraint,
 }
 
+/// What begins with its own literal in the text form.
+#[derive(Clone, Copy)]
+pub(crate) enum Own {
+    Input,
+    Latch,
+    Gate,
+}
+
 /// A place in the text. In a number it has the value of the digits, if there were any.
 #[derive(Clone, Copy)]
 pub(crate) enum Place {
@@ -28,6 +36,12 @@ pub(crate) enum Place {
     /// In the reset of the latch of this variable, which takes the value of the literal of this
     /// code.
     Reset(u64, u64, Option<u64>),
+    /// In the own literal of the input, latch or gate of this variable, in the text form.
+    Own(Own, u64, Option<u64>),
+    /// In the first literal of the gate of this variable, in the text form.
+    First(u64, Option<u64>),
+    /// In its second one, after a first one of this code.
+    Second(u64, u64, Option<u64>),
     /// In the first number of the gate of this variable, with bytes of this value, and before one
     /// of this weight.
     Left(u64, u32, u32),

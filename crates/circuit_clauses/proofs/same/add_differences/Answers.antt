@@ -7,7 +7,7 @@ loop-index-preserved c =
     let less = c.loop-index-test.true in let is = c.in_ok-difference.ensures in let before = c.loop-index.invariant in
     record {
       clauses =
-          difference_on p.inputs p.shift p.differences os c.args.others.now i l c.index-outputs-index.result c.index-others-index.result c.in_ok-moved.field-0
+          difference_on p.shift.inputs p.shift.distance p.differences os c.args.others.now i l c.index-outputs-index.result c.index-others-index.result c.in_ok-moved.field-0
           c.requires.as_many less is c.index-outputs-index.is c.index-others-index.is c.in_ok-moved.ensures c.args.formula.now c.loop-index.formula
           c.add_difference.new.formula c.in_ok-add_difference.ensures before.clauses;
       differ = differences_on p.differences os i l c.loop-index.differ.items c.add_literal.new.clause.items less is c.in_ok-add_literal.ensures before.differ;

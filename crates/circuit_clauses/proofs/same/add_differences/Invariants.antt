@@ -5,6 +5,6 @@ use Rattle.circuit_clauses.proofs.same.add_differences.Given as goal
 abbrev pub invariant-loop-index : goal.invariant-loop-index
 invariant-loop-index l = record {
   clauses : l.formula ≡ l.initial.formula
-      ++ difference_clauses l.places.inputs l.places.shift l.places.differences (take l.index l.outputs) (take l.index l.others);
+      ++ difference_clauses l.places.shift.inputs l.places.shift.distance l.places.differences (take l.index l.outputs) (take l.index l.others);
   differ : l.differ.items ≡ differences l.places.differences (take l.index l.outputs);
 }

@@ -1,0 +1,115 @@
+#!/usr/bin/env bash
+# Circuits that yosys makes of Verilog and ABC rewrites, and `checked` on them by cadical: the example of docs/USING.md word for word, the
+# designs of tests/circuits, with ABC's own check of equality as the oracle, and circuits with a wrong gate. `circuit_sweep` has to answer
+# where the solver never does.
+#
+# The programs must be built: `rt ci` does it, or `rt run` in their folders. It needs yosys, berkeley-abc and cadical.
+set -euo pipefail
+
+top=$(cd "$(dirname "$0")/.." && pwd)
+work=$(mktemp -d)
+trap 'rm -rf "$work"' EXIT
+wrong=0
+for tool in yosys berkeley-abc cadical; do
+  if ! command -v "$tool" > "$work/where"; then
+    echo "$tool is not installed: not tried"
+    exit
+  fi
+done
+mkdir "$work/bin"
+for program in drat_check circuit_check; do
+  built=$top/crates/${program}_main/out/${program}_main
+  if [[ ! -x $built ]]; then
+    echo "not built: $built"
+    exit 1
+  fi
+  ln -s "$built" "$work/bin/$program"
+done
+ln -s "$top"/tools/{checked,circuit_sweep} "$work/bin/"
+export PATH=$work/bin:$PATH
+cd "$work"
+
+# ends STATUS OUTPUT COMMAND..: it must end so and print this
+ends() {
+  local status=0 said
+  said=$("${@:3}" 2> err) || status=$?
+  if [[ $status != "$1" || $said != "$2" ]]; then
+    printf '%s: status %d, it printed: %s %s\n' "${*:3}" "$status" "$said" "$(cat err)"
+    wrong=1
+  fi
+}
+
+# The example: its two designs, and its commands
+using=$top/docs/USING.md
+for name in before after; do
+  awk -v name="$name.v" '/^```/ { open = $0 == "```verilog " name; next } open' "$using" > "$name.v"
+done
+awk '/^## / { below = $0 == "## Circuits" } /^```/ { open = below && $0 == "```bash"; next } open' "$using" > commands
+ends 20 's VERIFIED SAME' bash -e commands
+
+# design NAME [COMMAND]: the circuit NAME.aig of a design, and the same rewritten by ABC, NAME.new.aig
+design() {
+  yosys -q -p "read_verilog $top/tests/circuits/$1.v; ${2:-}; synth -flatten -top $1; aigmap; opt_clean; write_aiger $1.aig" > said
+  berkeley-abc -q "read_aiger $1.aig; strash; dc2; balance; rewrite; refactor; balance; rewrite -z; balance; write_aiger $1.new.aig" > said
+}
+
+# are_equal A B: what ABC says
+are_equal() {
+  berkeley-abc -q "cec $1 $2" > said
+  grep -q 'Networks are equivalent' said
+}
+
+# same A B OPTION..: two circuits that are equal by ABC
+same() {
+  if ! are_equal "$1" "$2"; then
+    echo "$1 and $2 are not equal by ABC: $(cat said)"
+    wrong=1
+  fi
+  ends 20 's VERIFIED SAME' checked "${@:3}" --limit 300 --same cadical "$1" "$2"
+}
+designs=(alu sha)
+for name in "${designs[@]}"; do
+  design "$name"
+  same "$name.aig" "$name.new.aig"
+done
+design alu_shared
+same alu.aig alu_shared.aig
+design sums
+ends 20 's VERIFIED NEVER' checked --never cadical sums.aig
+
+# a solver that never ends on the whole formula, and one that also writes text
+printf '#!/bin/sh\ncase $* in *asked.cnf*) exec sleep 60;; esac\nexec cadical -q "$@"\n' > bin/lazy
+printf '#!/bin/sh\ncase $* in *asked.cnf*) exec sleep 60;; esac\nexec cadical -q --no-binary "$@"\n' > bin/lazy_text
+chmod +x bin/lazy bin/lazy_text
+design crc
+design multiplier
+for name in crc multiplier; do
+  are_equal "$name.aig" "$name.new.aig" || wrong=1
+  ends 20 's VERIFIED SAME' checked --sweep-after 0 --keep "$name.drat" --limit 300 --same lazy "$name.aig" "$name.new.aig"
+  ends 0 's VERIFIED SAME' circuit_check same "$name.aig" "$name.new.aig" --proof "$name.drat"
+done
+design multiplier 'chparam -set N 5 multiplier'
+ends 20 's VERIFIED SAME' checked --sweep-after 0 --same lazy_text multiplier.aig multiplier.new.aig
+ends 20 's VERIFIED NEVER' checked --sweep-after 0 --never lazy sums.aig
+
+# A wrong gate: both by the solver and by way of equal gates there is no verdict that the circuits are the same, and where circuit_check takes
+# answers, the one that they differ
+for number in 1 7 40; do
+  python3 -B "$top/tests/circuits/turned.py" write multiplier.new.aig turned.aig "$number"
+  if are_equal multiplier.aig turned.aig; then
+    echo "the gate $number does not matter"
+    wrong=1
+  fi
+  for call in cadical '--sweep-after 0 lazy'; do
+    status=0
+    # shellcheck disable=SC2086 # several words
+    checked --limit 300 --same $call multiplier.aig turned.aig > verdict 2> err || status=$?
+    if circuit_check --help | grep -q -- '--answer'; then
+      [[ $status == 10 ]] && python3 -B "$top/tests/circuits/turned.py" judge multiplier.aig turned.aig < verdict || wrong=1
+    elif [[ $status != 1 || -s verdict ]]; then
+      echo "gate $number, $call: status $status, $(cat verdict err)"
+      wrong=1
+    fi
+  done
+done
+exit "$wrong"
