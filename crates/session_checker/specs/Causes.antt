@@ -1,6 +1,6 @@
--- The causes of refusals as the rules know them.
+-- The causes of rejections as the rules know them.
 --     refusal_of c      the cause
---     IsCause fault o      a call is refused for the cause of the rules, or since memory ran out
+--     IsCause fault o      a call is rejected for the cause of the rules, or since memory ran out
 use Rattle.std.specs.Prelude.{◌≡◌, Option, Some}
 use Rattle.lrat_rules.specs.Causes as rules
 use Rattle.session_checker.specs.Refusals.{Refusal, both_signs, by_line, misses_assumption, misses_clause, not_assumed}
@@ -20,7 +20,7 @@ refusal_of BothSigns = both_signs
 refusal_of MissesAssumption = misses_assumption
 refusal_of (MissesClause n) = misses_clause n
 
--- a call is refused for the cause of the rules, or since memory ran out
+-- a call is rejected for the cause of the rules, or since memory ran out
 abbrev pub IsCause : SessionFault → Option Refusal → Type 0
 IsCause (Refused cause) o = o ≡ Some (refusal_of cause)
 IsCause OutOfMemory o = Unit {0}

@@ -1,7 +1,7 @@
 -- A whole session, line by line: where each line is accepted in turn, all answers are true.
 --     Line      a clause or a lemma with its id, a deletion, an answer
 --     Held, nothing      the clauses that were given, and the clause of each id;  none
---     cause_of h line, after h line      why a line is refused;  what is held after an accepted one
+--     cause_of h line, after h line      why a line is rejected;  what is held after an accepted one
 --     all_accepted h lines      each line is accepted in turn
 --     events_of lines      what the application asked and was answered
 --     SessionsAreTrue      the law
@@ -28,7 +28,7 @@ pub record Held : Type 0 where
 abbrev pub nothing : Held
 nothing = record { given = []; named = λ k. None }
 
--- why a line is refused
+-- why a line is rejected
 abbrev pub cause_of : Held → Line → Option Refusal
 cause_of h (gives i c) = id_cause h.named i
 cause_of h (derives i c ids) = lemma_cause h.named i c ids

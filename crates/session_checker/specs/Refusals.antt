@@ -1,4 +1,4 @@
--- Why a clause, a lemma or an answer is refused. Each is accepted exactly where there is no cause.
+-- Why a clause, a lemma or an answer is rejected. Each is accepted exactly where there is no cause.
 --     Refusal      the causes
 --     id_cause f i, lemma_cause f i c ids      of a clause under an id;  of a lemma along hints
 --     core_cause f assumed k ids      of a core along hints
@@ -13,7 +13,7 @@ use Rattle.lrat_rules.specs.Propagation.{Ending, conflict, open_at, propagate, s
 use Rattle.session_rules.specs.Sessions.{all_in}
 use Rattle.session_checker.specs.Rules.{follows, is_core, is_model, listed}
 
--- as a line of LRAT is refused;  a literal of the core was not assumed;  the model has both signs of a variable;  it lacks an assumption;  it meets no literal of the clause of this number, from 1 on
+-- as a line of LRAT is rejected;  a literal of the core was not assumed;  the model has both signs of a variable;  it lacks an assumption;  it meets no literal of the clause of this number, from 1 on
 pub data Refusal : Type 0 where
   by_line : Cause → Refusal
   not_assumed both_signs misses_assumption : Refusal

@@ -51,7 +51,7 @@ pub record CheckedRows : Type 0 where
       ∷ asked (pos 1 ∷ []) (satisfiable (pos 1 ∷ neg 2 ∷ []))
       ∷ asked (pos 1 ∷ pos 2 ∷ []) (unsatisfiable (pos 2 ∷ pos 1 ∷ [])) ∷ given (pos 1 ∷ [])
       ∷ asked [] unknown ∷ asked (pos 2 ∷ []) (unsatisfiable (pos 2 ∷ [])) ∷ []
-  -- a clause that is deleted is no hint, and a model has to meet it
+  -- a clause that is deleted is no hint, and a model must satisfy it
   pub deleted_hint : all_accepted nothing
       (gives 1 (pos 1 ∷ []) ∷ deletes (1 ∷ []) ∷ fails (neg 1 ∷ []) (neg 1 ∷ []) (1 ∷ []) ∷ []) ≡ false
   pub deleted_clause : all_accepted nothing

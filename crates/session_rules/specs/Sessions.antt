@@ -1,4 +1,4 @@
--- What an application asked of a solver and was told, and when all of it is true. Nothing here
+-- What an application asked of a solver and what it answered, and when all of it is true. Nothing here
 -- speaks of a proof.
 --     Told      an answer: some values that satisfy, assumptions that fail together, or none
 --     Event      a clause is given;  a query under assumptions is answered
@@ -23,7 +23,7 @@ pub data Event : Type 0 where
 abbrev pub lits_true : (ℕ → Bool) → List ℕ → Bool
 lits_true a lits = list_all (lit_true a) lits
 
--- each literal of the first list stands in the second
+-- each literal of the first list is in the second
 abbrev pub all_in : List ℕ → List ℕ → Bool
 all_in ls ms = list_all (λ l. has l ms) ls
 

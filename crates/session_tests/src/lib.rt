@@ -1,8 +1,10 @@
-//! What no clause of `session_checker` says, as tests: sessions with their answers, call by call,
-//! and the texts of faults.
+//! What no clause of `session_checker` and `session_check` says, as tests: sessions with their
+//! answers, call by call and as whole runs, and the texts of faults.
 //!
-//! They stand apart so that the library is not proved a second time with them.
+//! They stand apart so that no library is proved a second time with them.
 #![tactic(auto)]
 
+#[cfg(test)]
+mod runs;
 #[cfg(test)]
 mod sessions;

@@ -1,0 +1,3 @@
+pub mod InteractionLemmas
+pub mod LineLemmas
+pub mod RunLemmas

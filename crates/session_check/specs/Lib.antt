@@ -1,0 +1,4 @@
+pub mod Reports
+pub mod Counts
+pub mod Progress
+pub mod Runs

@@ -1,0 +1,56 @@
+//! Why a run can't go on.
+ghost use Rattle.std.specs.Prelude.{◌≡◌};
+ghost use Rattle.session_check.specs.declared.fault.Stop.TheVariants as stops;
+
+use session_checker::SessionCause;
+use session_text::SessionTextFault;
+use std::alloc::{AllocError, AllocFailed};
+use std::io;
+use thiserror::Error;
+
+/// Why a line ends a session.
+#[derive(Clone, Copy, Debug, PartialEq, Eq, Error)]
+pub enum LineCause {
+    /// Its id is taken, or one of its ids names no clause.
+    #[error("{0}")]
+    Refused(SessionCause),
+    /// It is a line that may not come here: an answer or a conclusion without a query, or a clause
+    /// or a query after one without an answer.
+    #[error("not expected here")]
+    Misplaced,
+    /// The text ends after a query without an answer.
+    #[error("the last query has no answer")]
+    NoAnswer,
+}
+
+/// Why a run was not brought to its end.
+#[derive(Debug, Drop, Error)]
+pub enum RunFault {
+    /// The text was not read whole.
+    #[error("proof: {0}")]
+    Proof(SessionTextFault),
+    /// A line ends the session; lines count from 1.
+    #[error("proof: line {line}: {cause}")]
+    Line { line: u64, cause: LineCause },
+    /// There was no memory for a clause or an answer.
+    #[error("out of memory")]
+    OutOfMemory,
+    /// A line could not be written.
+    #[error("error writing: {0}")]
+    Write(io::Error),
+}
+
+/// Why a line was not taken.
+#[derive(Clone, Copy)]
+pub(crate) enum Stop {
+    Line(LineCause),
+    OutOfMemory,
+}
+
+impl From<AllocError> for Stop {
+    ghost from_gives = { λ _ stop. stop ≡ stops.OutOfMemory };
+
+    fn from(_e: AllocError) -> Stop {
+        Stop::OutOfMemory
+    }
+}

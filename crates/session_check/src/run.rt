@@ -1,0 +1,142 @@
+//! A run over a whole session.
+ghost use Rattle.std.specs.Prelude.{◌≡◌, OnErr, OnOk};
+ghost use Rattle.std.specs.Io.KnownBytes.{Appends};
+ghost use Rattle.whole_writes.specs.Beginnings.{AppendsBeginning};
+ghost use Rattle.session_check.specs.Counts.{last_line};
+ghost use Rattle.session_check.specs.Progress.{progress_of};
+ghost use Rattle.session_check.specs.Reports.{report_line};
+ghost use Rattle.session_check.specs.Runs.{Finishes, IsRun, Tells, TellsPart};
+
+use crate::counts::Counts;
+use crate::fault::{LineCause, RunFault, Stop};
+use crate::report::{Report, set_line};
+use crate::session::Session;
+use session_text::SessionReader;
+use std::alloc::Global;
+use std::io::{Read, Write};
+use whole_writes::write_whole;
+
+/// Reads a session as LIDRUP text, in which the application's lines stand too, and checks each
+/// answer as it comes. A line of each query is written and flushed before the next line is read,
+/// and at the end a line of all. Returns how many answers there are.
+///
+/// # Errors
+///
+/// `Proof` if the text can't be read or is malformed, `Line` for a line that ends the session,
+/// `OutOfMemory`, or `Write`. The lines of the queries before it are written.
+pub fn check_alone<P: Read + Drop, W: Write>(
+    alloc: Global,
+    proof: P,
+    out: &mut W,
+) -> Result<Counts, RunFault>
+    ensures { IsRun (P.remaining proof) (W.contents out.old) (W.contents out.new) result }
+{
+    let mut reader = SessionReader::new(alloc, proof);
+    let mut session = match Session::new(alloc) {
+        Ok(session) => session,
+        Err(_) => return Err(RunFault::OutOfMemory),
+    };
+    let mut text = Vec::new(alloc);
+    let mut counts = Counts::new();
+    'lines: loop {
+        match reader.next_line() {
+            Ok(Some(kind)) => match session.take(kind, reader.lists()) {
+                Ok(report) => tell(&mut text, &mut counts, report, out)?,
+                Err(stop) => return Err(fault_of(stop, reader.line())),
+            },
+            Ok(None) => return finish(session, text, counts, reader.line(), out),
+            Err(fault) => return Err(RunFault::Proof(fault)),
+        }
+    }
+}
+
+/// Ends a session whose lines were all taken.
+fn finish<W: Write>(
+    mut session: Session,
+    mut text: Vec<u8>,
+    mut counts: Counts,
+    line: u64,
+    out: &mut W,
+) -> Result<Counts, RunFault>
+    ensures { Finishes (progress_of session) counts (W.contents out.old) (W.contents out.new)
+        result }
+{
+    let report = match session.close() {
+        Ok(report) => report,
+        Err(_) => {
+            return Err(RunFault::Line {
+                line,
+                cause: LineCause::NoAnswer,
+            });
+        }
+    };
+    tell(&mut text, &mut counts, report, out)?;
+    write_last(&mut text, counts, out)?;
+    Ok(counts)
+}
+
+/// Writes the line of a query, if something is said of one.
+fn tell<W: Write>(
+    text: &mut Vec<u8>,
+    counts: &mut Counts,
+    report: Option<Report>,
+    out: &mut W,
+) -> Result<(), RunFault>
+    ensures whole { OnOk result (Tells counts.old counts.new report (W.contents out.old)
+        (W.contents out.new)) }
+    ensures part { OnErr result (TellsPart counts.old report (W.contents out.old)
+        (W.contents out.new)) }
+{
+    match report {
+        None => Ok(()),
+        Some(report) => {
+            counts.add(report);
+            write_report(text, counts.queries, report, out)
+        }
+    }
+}
+
+/// Writes the line of the query of this number.
+fn write_report<W: Write>(
+    text: &mut Vec<u8>,
+    number: u64,
+    report: Report,
+    out: &mut W,
+) -> Result<(), RunFault>
+    ensures whole { OnOk result
+        (Appends (W.contents out.old) (W.contents out.new) (report_line number report)) }
+    ensures part { OnErr result
+        (AppendsBeginning (W.contents out.old) (W.contents out.new) (report_line number report)) }
+{
+    if set_line(text, number, report).is_err() {
+        return Err(RunFault::OutOfMemory);
+    }
+    match write_whole(out, text) {
+        Ok(()) => Ok(()),
+        Err(fault) => Err(RunFault::Write(fault)),
+    }
+}
+
+/// Writes the last line.
+fn write_last<W: Write>(text: &mut Vec<u8>, counts: Counts, out: &mut W) -> Result<(), RunFault>
+    ensures whole { OnOk result
+        (Appends (W.contents out.old) (W.contents out.new) (last_line counts)) }
+    ensures part { OnErr result
+        (AppendsBeginning (W.contents out.old) (W.contents out.new) (last_line counts)) }
+{
+    if counts.set_last_line(text).is_err() {
+        return Err(RunFault::OutOfMemory);
+    }
+    match write_whole(out, text) {
+        Ok(()) => Ok(()),
+        Err(fault) => Err(RunFault::Write(fault)),
+    }
+}
+
+/// Returns the fault of a line of this number that was not taken.
+fn fault_of(stop: Stop, line: u64) -> RunFault {
+    match stop {
+        Stop::Line(cause) => RunFault::Line { line, cause },
+        Stop::OutOfMemory => RunFault::OutOfMemory,
+    }
+}

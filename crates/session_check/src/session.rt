@@ -1,0 +1,221 @@
+//! A session, a line after the other.
+ghost use Rattle.std.specs.Prelude.{◌≡◌, None, IfOk, IsOk, OnOk};
+ghost use Rattle.session_text.specs.Content.{content_of};
+
+use crate::fault::{LineCause, Stop};
+use crate::report::{Reason, Report};
+use sat_formula::Lit;
+use session_checker::{SessionCause, SessionChecker, SessionFault};
+use session_text::{LineKind, Lists, Status};
+use std::alloc::{AllocError, Global};
+
+/// Where the last query stands.
+#[derive(Clone, Copy)]
+pub(crate) enum Turn {
+    /// All was said of it, or there is none.
+    Idle,
+    /// It has no answer yet.
+    Asked,
+    /// It was answered so, and has no conclusion yet.
+    Answered(Status),
+}
+
+/// A session up to a line.
+#[derive(Drop)]
+pub(crate) struct Session {
+    checker: SessionChecker,
+    turn: Turn,
+    /// What the last query assumed.
+    assumed: Vec<Lit>,
+    /// Whether some lemma did not follow.
+    broken: bool,
+}
+
+impl Session {
+    ghost use Rattle.session_check.specs.Progress.{Asks, Closes, Gives, Takes, fresh, open_of, progress_of};
+
+    /// Returns a session before its first line.
+    pub(crate) fn new(alloc: Global) -> Result<Session, AllocError>
+        ensures { IfOk result (λ session. progress_of session ≡ fresh) }
+    {
+        Ok(Session {
+            checker: SessionChecker::new(alloc)?,
+            turn: Turn::Idle,
+            assumed: Vec::new(alloc),
+            broken: false,
+        })
+    }
+
+    /// Takes a line of this kind. Returns what is said of the query that it ends, if it ends one.
+    pub(crate) fn take(&mut self, kind: LineKind, lists: &Lists) -> Result<Option<Report>, Stop>
+        ensures { IfOk result (λ report. Takes kind (content_of lists.now) (progress_of self.old)
+            report (progress_of self.new)) }
+    {
+        match kind {
+            LineKind::Clause => self.give(lists.id, &lists.lits),
+            LineKind::Query => self.ask(&lists.lits),
+            LineKind::Lemma => self.derive(lists.id, &lists.lits, &lists.ids),
+            LineKind::Deletion => self.delete(&lists.ids),
+            LineKind::Weakening => self.weaken(&lists.ids),
+            LineKind::Answer(status) => self.answer(status),
+            LineKind::Model => self.model(&lists.lits),
+            LineKind::Core => self.core(&lists.lits, &lists.ids),
+            LineKind::Trail => Ok(None),
+        }
+    }
+
+    /// Ends the last query, if it still stands open: it has no conclusion.
+    pub(crate) fn close(&mut self) -> Result<Option<Report>, Stop>
+        ensures closes { IfOk result (λ report.
+            Closes (progress_of self.old) report (progress_of self.new)) }
+        ensures idle { OnOk result (open_of self.new ≡ None) }
+    {
+        match self.turn {
+            Turn::Idle => Ok(None),
+            Turn::Asked => Err(Stop::Line(LineCause::Misplaced)),
+            Turn::Answered(status) => {
+                self.turn = Turn::Idle;
+                Ok(Some(Report {
+                    status,
+                    reason: Some(Reason::NoConclusion),
+                }))
+            }
+        }
+    }
+
+    fn give(&mut self, id: u64, clause: &[Lit]) -> Result<Option<Report>, Stop>
+        ensures { IfOk result (λ report. Gives clause.now (progress_of self.old) report
+            (progress_of self.new)) }
+    {
+        let report = self.close()?;
+        match self.checker.give(id, clause) {
+            Ok(()) => Ok(report),
+            Err(fault) => Err(stop_of(fault)),
+        }
+    }
+
+    fn ask(&mut self, assumed: &[Lit]) -> Result<Option<Report>, Stop>
+        ensures { IfOk result (λ report. Asks assumed.now (progress_of self.old) report
+            (progress_of self.new)) }
+    {
+        let report = self.close()?;
+        self.assumed.clear();
+        self.assumed.extend_from_slice(assumed)?;
+        self.turn = Turn::Asked;
+        Ok(report)
+    }
+
+    /// A lemma that does not follow is not stored, and the session goes on.
+    fn derive(&mut self, id: u64, lemma: &[Lit], hints: &[u64]) -> Result<Option<Report>, Stop>
+        ensures { IfOk result (λ report.
+            Closes (progress_of self.old) report (progress_of self.new)) }
+    {
+        match self.checker.derive(id, lemma, hints) {
+            Ok(()) => Ok(None),
+            Err(SessionFault::Refused(cause)) if !is_of_ids(cause) => {
+                self.broken = true;
+                Ok(None)
+            }
+            Err(fault) => Err(stop_of(fault)),
+        }
+    }
+
+    fn delete(&mut self, ids: &[u64]) -> Result<Option<Report>, Stop>
+        ensures { IfOk result (λ report.
+            Closes (progress_of self.old) report (progress_of self.new)) }
+    {
+        let report = self.weaken(ids)?;
+        self.checker.delete(ids);
+        Ok(report)
+    }
+
+    /// All ids must name clauses, which stay.
+    fn weaken(&mut self, ids: &[u64]) -> Result<Option<Report>, Stop>
+        ensures closes { IfOk result (λ report.
+            Closes (progress_of self.old) report (progress_of self.new)) }
+        ensures stays { self.new ≡ self.old }
+    {
+        for id in ids {
+            if self.checker.clause(*id).is_none() {
+                return Err(Stop::Line(LineCause::Refused(SessionCause::UnknownId)));
+            }
+        }
+        Ok(None)
+    }
+
+    fn answer(&mut self, status: Status) -> Result<Option<Report>, Stop>
+        ensures { IfOk result (λ report.
+            Closes (progress_of self.old) report (progress_of self.new)) }
+    {
+        let Turn::Asked = self.turn else {
+            return Err(Stop::Line(LineCause::Misplaced));
+        };
+        if !matches!(status, Status::Unknown) {
+            self.turn = Turn::Answered(status);
+            return Ok(None);
+        }
+        self.turn = Turn::Idle;
+        Ok(Some(Report {
+            status,
+            reason: None,
+        }))
+    }
+
+    fn model(&mut self, model: &[Lit]) -> Result<Option<Report>, Stop>
+        ensures { IfOk result (λ report.
+            Closes (progress_of self.old) report (progress_of self.new)) }
+    {
+        let Turn::Answered(Status::Satisfiable) = self.turn else {
+            return Err(Stop::Line(LineCause::Misplaced));
+        };
+        self.turn = Turn::Idle;
+        let reason = reason_of(self.checker.satisfies(&self.assumed, model))?;
+        Ok(Some(Report {
+            status: Status::Satisfiable,
+            reason,
+        }))
+    }
+
+    fn core(&mut self, core: &[Lit], hints: &[u64]) -> Result<Option<Report>, Stop>
+        ensures { IfOk result (λ report.
+            Closes (progress_of self.old) report (progress_of self.new)) }
+    {
+        let Turn::Answered(Status::Unsatisfiable) = self.turn else {
+            return Err(Stop::Line(LineCause::Misplaced));
+        };
+        self.turn = Turn::Idle;
+        let reason = if self.broken {
+            Some(Reason::Lemma)
+        } else {
+            reason_of(self.checker.fails(&self.assumed, core, hints))?
+        };
+        Ok(Some(Report {
+            status: Status::Unsatisfiable,
+            reason,
+        }))
+    }
+}
+
+/// Returns whether an id of the line is the cause.
+fn is_of_ids(cause: SessionCause) -> bool {
+    matches!(cause, SessionCause::IdTaken | SessionCause::UnknownId)
+}
+
+/// Returns why a line ends the session.
+fn stop_of(fault: SessionFault) -> Stop {
+    match fault {
+        SessionFault::Refused(cause) => Stop::Line(LineCause::Refused(cause)),
+        SessionFault::OutOfMemory => Stop::OutOfMemory,
+    }
+}
+
+/// Returns why an answer is not shown, if it is not.
+fn reason_of(outcome: Result<(), SessionFault>) -> Result<Option<Reason>, Stop>
+    ensures { IfOk result (λ reason. reason ≡ None → IsOk outcome) }
+{
+    match outcome {
+        Ok(()) => Ok(None),
+        Err(SessionFault::Refused(cause)) => Ok(Some(Reason::Refused(cause))),
+        Err(SessionFault::OutOfMemory) => Err(Stop::OutOfMemory),
+    }
+}

@@ -1,0 +1,234 @@
+-- The grammar of a session, a byte after the other. A line is a comment (`c`), the header, a status (`s` and a word), or a letter
+-- and lists of numbers, each up to a 0.
+--     start      the start of a text
+--     after s b      what a byte does
+--     at_end s      what is wrong with a text that ends here
+use Rattle.std.specs.Prelude.{ℕ, ◌+◌, ◌-◌, Bool, true, false, ◌&&◌, List, length, slice_index, codes, Option, Some, None, Result, Ok, Err, nat_lt, ◌==◌, if◌then◌else◌}
+use Rattle.sat_formula.specs.Bytes.{letter_c, minus_sign, digit_zero, is_blank, is_digit, is_lf}
+use Rattle.sat_formula.specs.Digits.{ends_word}
+use Rattle.sat_formula.specs.Outcome as dimacs
+use Rattle.session_text.specs.declared.fault.TextKind.{TextKind}
+use Rattle.session_text.specs.declared.fault.TextKind.TheVariants.{Malformed, NoHeader, Unfinished}
+use Rattle.session_text.specs.declared.grammar.Said.{Said}
+use Rattle.session_text.specs.declared.grammar.Said.TheVariants.{Last, Next, Turns, Wrong}
+use Rattle.session_text.specs.declared.line.Item.TheVariants as items
+use Rattle.session_text.specs.declared.line.LineKind.{LineKind}
+use Rattle.session_text.specs.declared.line.LineKind.TheVariants.{Answer, Clause, Core, Deletion, Lemma, Model, Query, Trail, Weakening}
+use Rattle.session_text.specs.declared.line.Status.{Status}
+use Rattle.session_text.specs.declared.line.Status.TheVariants.{Satisfiable, Unknown, Unsatisfiable}
+use Rattle.session_text.specs.declared.spot.After.{After}
+use Rattle.session_text.specs.declared.spot.After.TheVariants.{Ends, Gives, Goes, Stops}
+use Rattle.session_text.specs.declared.spot.Due.{Due}
+use Rattle.session_text.specs.declared.spot.Due.TheVariants as dues
+use Rattle.session_text.specs.declared.spot.Place.{Place}
+use Rattle.session_text.specs.declared.spot.Place.TheVariants.{AfterS, BeforeWord, Between, Comment, Digits, Done, Header, Letter, LineStart, Sign, Word}
+use Rattle.session_text.specs.declared.spot.Spot.{Spot}
+use Rattle.session_text.specs.Content.{has_hints}
+use Rattle.session_text.specs.Numbers.{id_said, lit_said, with_digit}
+
+-- the start of a text
+abbrev pub start : Spot
+start = record { line = 1; headed = false; place = LineStart }
+
+-- another place of the same line
+abbrev pub moved : Spot → Place → Spot
+moved s p = record s { place = p }
+
+-- the start of the next line
+abbrev pub next_line : Spot → Spot
+next_line s = record s { line = dimacs.next_line s.line; place = LineStart }
+
+-- the LF after a line of this kind, or after the header
+abbrev pub ends : Spot → Option LineKind → After
+ends s (Some kind) = Ends kind (next_line s)
+ends s None = Goes (record (next_line s) { headed = true })
+
+-- after all that a line has: blanks, and an LF
+abbrev pub done : Spot → Option LineKind → ℕ → After
+done s kind b =
+    if is_lf b then ends s kind
+    else (if is_blank b then Goes (moved s (Done kind)) else Stops Malformed)
+
+-- ---- statuses
+
+-- the word of a status
+abbrev pub word_of : Status → List ℕ
+word_of Satisfiable = codes "SATISFIABLE"
+word_of Unsatisfiable = codes "UNSATISFIABLE"
+word_of Unknown = codes "UNKNOWN"
+
+-- the byte is the next one of the word, of which this many were read
+abbrev pub is_spelled : Status → ℕ → ℕ → Bool
+is_spelled status read b =
+    nat_lt read (length (word_of status)) && (slice_index (word_of status) read == b)
+
+-- `UN` was read, and the byte is a `K`: the word is `UNKNOWN`
+abbrev pub turns : Status → ℕ → ℕ → Bool
+turns Satisfiable read b = false
+turns Unsatisfiable read b = read == 2 && (b == 75)
+turns Unknown read b = false
+
+-- a byte in a word or after it
+abbrev pub in_word : Spot → Status → ℕ → ℕ → After
+in_word s status read b =
+    if is_spelled status read b then Goes (moved s (Word status (read + 1)))
+    else (if turns status read b then Goes (moved s (Word Unknown 3))
+    else (if ends_word b && (read == length (word_of status)) then done s (Some (Answer status)) b
+    else Stops Malformed))
+
+-- a byte before the word
+abbrev pub before_word : Spot → ℕ → After
+before_word s b =
+    if is_blank b then Goes s
+    else (if b == 83 then Goes (moved s (Word Satisfiable 1))
+    else (if b == 85 then Goes (moved s (Word Unsatisfiable 1)) else Stops Malformed))
+
+-- the byte after the `s`
+abbrev pub after_s : Spot → ℕ → After
+after_s s b = if is_blank b then Goes (moved s BeforeWord) else Stops Malformed
+
+-- ---- numbers
+
+-- among the literals of a line
+abbrev pub lits_said : LineKind → Result (Option ℕ) TextKind → Said
+lits_said kind (Ok (Some lit)) = Next (items.Lit lit) (dues.Lit kind)
+lits_said kind (Ok None) = if has_hints kind then Turns (dues.Hint kind) else Last kind
+lits_said kind (Err wrong) = Wrong wrong
+
+-- among its ids
+abbrev pub ids_said : LineKind → Result (Option ℕ) TextKind → Said
+ids_said kind (Ok (Some i)) = Next (items.Hint i) (dues.Hint kind)
+ids_said kind (Ok None) = Last kind
+ids_said kind (Err wrong) = Wrong wrong
+
+-- as the id of its clause
+abbrev pub id_read : LineKind → Result (Option ℕ) TextKind → Said
+id_read kind (Ok (Some i)) = Next (items.Id i) (dues.Lit kind)
+id_read kind (Ok None) = Wrong Malformed
+id_read kind (Err wrong) = Wrong wrong
+
+-- a number of this value, after a `-` or not
+abbrev pub number_said : Due → Bool → ℕ → Said
+number_said (dues.Lit kind) negative v = lits_said kind (lit_said negative v)
+number_said (dues.Hint kind) negative v = ids_said kind (id_said negative v)
+number_said (dues.Id kind) negative v = id_read kind (id_said negative v)
+
+-- it stands before a blank
+abbrev pub number_read : Spot → Said → After
+number_read s (Next item due) = Gives item (moved s (Between due))
+number_read s (Turns due) = Goes (moved s (Between due))
+number_read s (Last kind) = Goes (moved s (Done (Some kind)))
+number_read s (Wrong wrong) = Stops wrong
+
+-- it stands before an LF
+abbrev pub last_read : Spot → Said → After
+last_read s (Next item due) = Stops Malformed
+last_read s (Turns due) = Stops Malformed
+last_read s (Last kind) = ends s (Some kind)
+last_read s (Wrong wrong) = Stops wrong
+
+-- a byte in digits or after them; no digit follows a 0 that is the first
+abbrev pub in_digits : Spot → Due → Bool → ℕ → ℕ → After
+in_digits s due negative v b =
+    if is_digit b && nat_lt 0 v then Goes (moved s (Digits due negative (with_digit v b)))
+    else (if is_blank b then number_read s (number_said due negative v)
+    else (if is_lf b then last_read s (number_said due negative v) else Stops Malformed))
+
+-- a first digit, after a `-` or not
+abbrev pub first_digit : Spot → Due → Bool → ℕ → After
+first_digit s due negative b =
+    if is_digit b then Goes (moved s (Digits due negative (b - digit_zero))) else Stops Malformed
+
+-- a byte between numbers
+abbrev pub between : Spot → Due → ℕ → After
+between s due b =
+    if is_blank b then Goes s
+    else (if b == minus_sign then Goes (moved s (Sign due)) else first_digit s due false b)
+
+-- ---- lines
+
+-- what is due after the letter of a line
+abbrev pub due_after : ℕ → Option Due
+due_after b =
+    if b == 105 then Some (dues.Id Clause)
+    else (if b == 108 then Some (dues.Id Lemma)
+    else (if b == 100 then Some (dues.Hint Deletion)
+    else (if b == 119 then Some (dues.Hint Weakening)
+    else (if b == 114 then Some (dues.Hint Weakening)
+    else (if b == 113 then Some (dues.Lit Query)
+    else (if b == 109 then Some (dues.Lit Model)
+    else (if b == 117 then Some (dues.Lit Core)
+    else (if b == 101 then Some (dues.Lit Trail) else None))))))))
+
+-- the byte after the letter
+abbrev pub after_letter : Spot → Due → ℕ → After
+after_letter s due b = if is_blank b then Goes (moved s (Between due)) else Stops Malformed
+
+-- the header
+abbrev pub header : List ℕ
+header = codes "p lidrup"
+
+-- a byte of the header, of which this many were read, or after it
+abbrev pub in_header : Spot → ℕ → ℕ → After
+in_header s read b =
+    if nat_lt read (length header) && (slice_index header read == b)
+    then Goes (moved s (Header (read + 1)))
+    else (if (read == length header) && ends_word b then done s None b else Stops NoHeader)
+
+-- a byte of a comment
+abbrev pub in_comment : Spot → ℕ → After
+in_comment s b = if is_lf b then Goes (next_line s) else Goes s
+
+-- the letter of a line
+abbrev pub begins : Spot → Option Due → After
+begins s (Some due) = Goes (moved s (Letter due))
+begins s None = Stops Malformed
+
+-- the first byte of the header, or of a line after it
+abbrev pub start_of : Spot → ℕ → After
+start_of s b =
+    if s.headed then (if b == 115 then Goes (moved s AfterS) else begins s (due_after b))
+    else in_header s 0 b
+
+-- a byte before the first one that is no blank, or that one
+abbrev pub line_start : Spot → ℕ → After
+line_start s b =
+    if is_lf b then Goes (next_line s)
+    else (if is_blank b then Goes s
+    else (if b == letter_c then Goes (moved s Comment) else start_of s b))
+
+-- one byte, at each place
+abbrev pub after_at : Place → Spot → ℕ → After
+after_at LineStart s b = line_start s b
+after_at Comment s b = in_comment s b
+after_at (Header read) s b = in_header s read b
+after_at (Letter due) s b = after_letter s due b
+after_at (Between due) s b = between s due b
+after_at (Sign due) s b = first_digit s due true b
+after_at (Digits due negative v) s b = in_digits s due negative v b
+after_at AfterS s b = after_s s b
+after_at BeforeWord s b = before_word s b
+after_at (Word status read) s b = in_word s status read b
+after_at (Done kind) s b = done s kind b
+
+-- one byte
+unfoldable pub after : Spot → ℕ → After
+after s b = after_at s.place s b
+
+-- what is wrong with a text that ends at this place
+abbrev pub at_end_in : Place → Bool → Option TextKind
+at_end_in LineStart headed = if headed then None else Some NoHeader
+at_end_in Comment headed = Some Unfinished
+at_end_in (Header read) headed = Some Unfinished
+at_end_in (Letter due) headed = Some Unfinished
+at_end_in (Between due) headed = Some Unfinished
+at_end_in (Sign due) headed = Some Unfinished
+at_end_in (Digits due negative v) headed = Some Unfinished
+at_end_in AfterS headed = Some Unfinished
+at_end_in BeforeWord headed = Some Unfinished
+at_end_in (Word status read) headed = Some Unfinished
+at_end_in (Done kind) headed = Some Unfinished
+
+-- the same at a spot
+abbrev pub at_end : Spot → Option TextKind
+at_end s = at_end_in s.place s.headed

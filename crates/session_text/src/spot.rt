@@ -1,0 +1,117 @@
+//! Where the reading of a text is.
+ghost use Rattle.std.specs.Prelude.{◌≡◌};
+ghost use Rattle.session_text.specs.Places.{at_end, ends, moved, next_line, start};
+
+use crate::fault::TextKind;
+use crate::line::{Item, LineKind, Status};
+
+/// What is due next in a line of this kind.
+#[derive(Clone, Copy)]
+pub(crate) enum Due {
+    /// The id of its clause.
+    Id(LineKind),
+    /// A literal, or the 0 after the last.
+    Lit(LineKind),
+    /// An id, or the 0 after the last.
+    Hint(LineKind),
+}
+
+/// A place in a line.
+#[derive(Clone, Copy)]
+pub(crate) enum Place {
+    /// Before its first byte that is no blank.
+    LineStart,
+    Comment,
+    /// In the header, of which this many bytes were read.
+    Header(usize),
+    /// After the letter of a line.
+    Letter(Due),
+    /// Between numbers.
+    Between(Due),
+    /// After a `-`.
+    Sign(Due),
+    /// In digits of this value, after a `-` or not.
+    Digits(Due, bool, u64),
+    AfterS,
+    BeforeWord,
+    /// In a status, of which this many bytes were read. `UN` counts as of `UNSATISFIABLE`.
+    Word(Status, usize),
+    /// After all that a line of this kind has, or after the header.
+    Done(Option<LineKind>),
+}
+
+/// Where the reading of a text is.
+#[derive(Clone, Copy)]
+pub(crate) struct Spot {
+    /// The number of the line; it stays at `u64::MAX`.
+    pub(crate) line: u64,
+    /// Whether the header was read.
+    pub(crate) headed: bool,
+    pub(crate) place: Place,
+}
+
+/// What a byte does.
+#[derive(Clone, Copy)]
+pub(crate) enum After {
+    Goes(Spot),
+    /// A number was read.
+    Gives(Item, Spot),
+    /// A line was read.
+    Ends(LineKind, Spot),
+    Stops(TextKind),
+}
+
+impl Spot {
+    /// Returns the start of a text.
+    pub(crate) fn start() -> Spot
+        ensures { result ≡ start }
+    {
+        Spot {
+            line: 1,
+            headed: false,
+            place: Place::LineStart,
+        }
+    }
+
+    #[inline(always)]
+    pub(crate) fn moved(self, place: Place) -> Spot
+        ensures { result ≡ moved self place }
+    {
+        Spot { place, ..self }
+    }
+
+    /// Returns the start of the next line.
+    pub(crate) fn next_line(self) -> Spot
+        ensures { result ≡ next_line self }
+    {
+        Spot {
+            line: self.line.saturating_add(1),
+            place: Place::LineStart,
+            ..self
+        }
+    }
+
+    /// Returns what the LF after a line of this kind does, or after the header.
+    pub(crate) fn ends(self, kind: Option<LineKind>) -> After
+        ensures { result ≡ ends self kind }
+    {
+        match kind {
+            Some(kind) => After::Ends(kind, self.next_line()),
+            None => After::Goes(Spot {
+                headed: true,
+                ..self.next_line()
+            }),
+        }
+    }
+
+    /// Returns what is wrong with a text that ends here, if something is.
+    pub(crate) fn at_end(self) -> Option<TextKind>
+        ensures { result ≡ at_end self }
+    {
+        match self.place {
+            Place::LineStart if self.headed => None,
+            Place::LineStart => Some(TextKind::NoHeader),
+            _ => Some(TextKind::Unfinished),
+        }
+    }
+}
