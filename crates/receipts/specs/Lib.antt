@@ -1,0 +1,3 @@
+pub mod Honesty
+pub mod Joins
+pub mod Lines
