@@ -14,7 +14,7 @@ pub data Outcome : Type 0 where
   Lists : List ℕ → Outcome
   Faulty : ℕ → AnswerKind → Outcome
 
--- after a byte: the literals so far and where the reading stands, or a fault and its line
+-- after a byte: the literals so far and the position of the reading, or a fault and its line
 pub data Step : Type 0 where
   On : List ℕ → Spot → Step
   Off : ℕ → AnswerKind → Step

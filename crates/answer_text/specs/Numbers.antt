@@ -4,7 +4,7 @@ use Rattle.sat_formula.specs.Vars.{lit_code}
 use Rattle.answer_text.specs.declared.fault.AnswerKind.{AnswerKind}
 use Rattle.answer_text.specs.declared.fault.AnswerKind.TheVariants.{Malformed, NumberTooLarge}
 
--- digits of this value, after a `-` or not; the literal stands as its code
+-- digits of this value, after a `-` or not; the literal is given by its code
 abbrev pub lit_said : Bool → ℕ → Result (Option ℕ) AnswerKind
 lit_said negative v =
     if v == 0 then (if negative then Err Malformed else Ok None)

@@ -51,8 +51,8 @@ pub struct DratAnswer {
     pub text: Placed,
 }
 
-/// Checks a DRAT or FRAT proof against a DIMACS text. If the status is 0, no assignment satisfies
-/// the clauses of the formula's text.
+/// Checks a DRAT or FRAT proof against a DIMACS text. Returns the status, and what was written to
+/// each buffer. If the status is 0, no assignment satisfies the clauses of the formula's text.
 ///
 /// Then `lrat` and `core` get what the options ask for, each as much as fits; else they are
 /// unchanged. `text` gets the text of a fault, and nothing with a verdict.

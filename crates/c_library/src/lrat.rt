@@ -25,10 +25,9 @@ pub struct LratAnswer {
     pub text: Placed,
 }
 
-/// Checks an LRAT proof, text or binary, against a DIMACS text. If the status is 0, no assignment
-/// satisfies the clauses of the formula's text.
-///
-/// `text` gets the text of a fault, and nothing with a verdict.
+/// Checks an LRAT proof, text or binary, against a DIMACS text. Returns the status, and what was
+/// written to `text`: the text of a fault, and nothing with a verdict. If the status is 0, no
+/// assignment satisfies the clauses of the formula's text.
 #[unsafe(no_mangle)]
 pub extern "C" fn cefindrato_lrat_check(
     alloc: Global,

@@ -31,10 +31,10 @@ pub struct ModelAnswer {
     pub line: u64,
 }
 
-/// Checks a solver's answer against a DIMACS text. If the status is 0, each assignment that agrees
-/// with the answer satisfies the formula, and there is one.
-///
-/// `text` gets the text of a fault, and nothing with a verdict.
+/// Checks a solver's answer against a DIMACS text. Returns the status, the first clause that is not
+/// satisfied, and what was written to `text`: the text of a fault, and nothing with a verdict. If
+/// the status is 0, each assignment that agrees with the answer satisfies the formula, and there is
+/// one.
 #[unsafe(no_mangle)]
 pub extern "C" fn cefindrato_model_check(
     alloc: Global,

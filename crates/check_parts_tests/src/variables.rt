@@ -25,7 +25,7 @@ enum Call {
 /// named as the first one. It has no name otherwise.
 type Step = (Call, i64, Result<(), StepFault>, usize, bool);
 
-/// Calls over new parts in turn, up to one that is refused.
+/// Calls over new parts in turn, up to one that is rejected.
 const ROWS: [&[Step]; 3] = [
     // Variables become known.
     &[
@@ -102,6 +102,7 @@ fn play_new(rt: &impl Abort, alloc: Global, steps: &[Step]) -> Result<(), Fail> 
     play(rt, &mut ctx, steps)
 }
 
+/// The functions over variables leave these names and modes.
 pub fn variables(rt: &impl Abort, alloc: Global) -> Result<(), Fail> {
     for steps in &ROWS {
         play_new(rt, alloc, steps)?;

@@ -9,8 +9,8 @@
 //! - another step of [`crate::steps`]: hands in the step;
 //! - `unsat`, `inputs`, `counts`: looks at what is recorded;
 //! - `says CALL`, `shows CALL`, `logs CALL`: another answer of a call: see [`crate::reports`];
-//! - `count BYTES : CLAUSES`: how many steps a processor is told of a proof, bytes in hexadecimal,
-//!   for such a formula.
+//! - `count BYTES : CLAUSES`: how many steps of a proof, bytes in hexadecimal, are delivered to a
+//!   processor, for such a formula.
 use crate::answers::{answer, text_answer};
 use crate::registered::Checker;
 use crate::reports::{logged, said, shown};

@@ -1,7 +1,7 @@
 //! Calls over the parts of a checker, by the paths of their modules, and looks at what they record.
 //!
 //! Of some parts the form alone is known: steps over them are answered by the rules, whatever the
-//! clauses rest on. A refusal that shows its step ends in `shown`.
+//! clauses rest on. A rejection that shows its step ends in `shown`.
 //!
 //! - `add LITS`: adds an input clause;
 //! - `attempt STEP`, `check STEP`: checks a step of [`crate::steps`], which is counted, or is not;

@@ -8,7 +8,7 @@
 //!   this and that have counted this many steps;
 //! - `here`, `again`: what follows `again` is called of a new checker that took the calls up to
 //!   `here`;
-//! - a call, as in [`crate::calls`], with its answer behind ` > ` where it isn't `Ok`;
+//! - a call, as in [`crate::calls`], with its answer after ` > ` where it isn't `Ok`;
 //! - `processor KINDS`, `transcript KINDS`: registers processors and transcripts of a bare checker:
 //!   see [`crate::registered`];
 //! - `processors`, `transcripts`: what these show, each with a bar for the end of a line. A

@@ -17,7 +17,7 @@ use Rattle.checker_rules.specs.Canonical.{canonical, insert_lit}
 use Rattle.checker_rules.proofs.Entries.{canonical-is}
 use Rattle.checker_rules.proofs.Sets.{bool_ext}
 
--- a number that stands in no list of greater ones
+-- a number that is in no list of greater ones
 pub has-above : (l : ℕ) (c : List ℕ) → list_all (ltb l) c ≡ true → has l c ≡ false
 has-above l [] h = refl
 has-above l (m ∷ c) h = grind (arith, nat_tests, has-above l c)

@@ -84,7 +84,7 @@ known-parts k o w name mode = ap (λ (o : Option ℕ). record { name = o; mode =
 pub columns_mode : (ns : List ℕ) (ms : List SamplingMode) (ts : List Bool) (i : ℕ) (m : SamplingMode) → AreColumns ns ms ts → i < length ns → AreColumns ns (set ms i m) ts
 columns_mode ns ms ts i m h less = grind (arith, length-set, known_by-mode, marked_same, length-known_by)
 
--- a variable is hidden, and its name goes
+-- a variable is hidden, and its name is removed
 pub columns_hidden : (ns : List ℕ) (ms : List SamplingMode) (ts ts' : List Bool) (i n : ℕ) → name_of n ≡ None → AreColumns ns ms ts →
     length ts' ≡ length ts → IsMarked (set (known_by ns ms) i (record { name = None; mode = hide })) ts'
     → AreColumns (set ns i n) (set ms i Hide) ts'

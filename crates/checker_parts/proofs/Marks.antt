@@ -19,7 +19,7 @@ mark ts u = cond (get_or ts u false) 1 0
 abbrev pub names_it : Option ℕ → ℕ → ℕ
 names_it o u = cond (option_is o u) 1 0
 
--- how often a name stands after a write
+-- how often a name occurs after a write
 times-set : (ks : List Known) (i u : ℕ) (k : Known) → i < length ks → times_taken (set ks i k) u + names_it (known_at ks i).name u ≡ times_taken ks u + names_it k.name u
 times-set ks i u k h = sum_by-set (λ (k : Known). names_it k.name u) ks i k new_known h
 
@@ -44,7 +44,7 @@ pub marked_name : (ks : List Known) (ts : List Bool) (i j : ℕ) (k : Known) →
     → (known_at ks i).name ≡ None → k.name ≡ Some j → is_taken ks j ≡ false → IsMarked (set ks i k) (set ts j true)
 marked_name ks ts i j k m hi hj unnamed name free u = grind (arith, times-set, cases_eq, eq-eqb, times-taken, get_or-set_same, ne_eqb, get_or-set_other)
 
--- a name goes, and the mark of its index
+-- a name is removed, and the mark of its index
 pub marked_unnamed : (ks : List Known) (ts : List Bool) (i j : ℕ) (k : Known) → IsMarked ks ts → i < length ks → j < length ts
     → (known_at ks i).name ≡ Some j → k.name ≡ None → IsMarked (set ks i k) (set ts j false)
 marked_unnamed ks ts i j k m hi hj named name u = grind (arith, times-set, cases_eq, eq-eqb, get_or-set_same, ne_eqb, get_or-set_other)

@@ -8,7 +8,7 @@ use Rattle.checker_rules.specs.Canonical.{is_subset}
 use Rattle.checker_parts.specs.Subsets.{is_subset_by}
 use Rattle.checker_parts.proofs.CanonicalLists.{has-above}
 
--- the walk: `strict` says that a literal of the second list alone is still wanted
+-- the walk: `strict` says that a literal of the second list alone is still to be found
 abbrev pub subset_walk : Bool → List ℕ → List ℕ → Bool
 subset_walk strict [] [] = not strict
 subset_walk strict (x ∷ xs) [] = false

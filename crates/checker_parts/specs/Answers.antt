@@ -16,11 +16,11 @@ use Rattle.checker_parts.specs.Endings.{Ending, accepted, refused, given_up, had
 use Rattle.checker_parts.specs.declared.error.CheckerError.{CheckerError}
 use Rattle.checker_parts.specs.declared.error.DimacsError.{DimacsError}
 
--- refused with this cause, at the step number of the state after
+-- rejected with this cause, at the step number of the state after
 abbrev pub IsRefusal : Cause → ℕ → Outcome → State → Type 0
 IsRefusal cause number o s = (o.refused ≡ Some cause) × (s ≡ o.after) × (number ≡ s.steps)
 
--- accepted, or refused with this cause, and the state after; a call that gives up fails the checker, and no other end is that of an outcome
+-- accepted, or rejected with this cause, and the state after; a call that gives up fails the checker, and no other end is that of an outcome
 abbrev pub EndsOutcome : Ending → Outcome → State → Type 0
 EndsOutcome accepted o s = (o.refused ≡ None) × (s ≡ o.after)
 EndsOutcome (refused cause number) o s = IsRefusal cause number o s
@@ -31,7 +31,7 @@ EndsOutcome _ o s = ⊥
 abbrev pub AnswersStep : {A : Type 0} → Result A CheckerError → Outcome → State → Type 0
 AnswersStep r o s = EndsOutcome (ending r) o s
 
--- of the clauses of a text: all were accepted where the text ends or has its fault, else the first refusal is answered
+-- of the clauses of a text: all were accepted where the text ends or has its fault, else the first rejection is answered
 abbrev pub AnswersText : {A : Type 0} → Result A DimacsError → Outcome → State → Type 0
 AnswersText r o s = EndsOutcome (text_ending r) o s
 

@@ -1,4 +1,4 @@
--- The refusals of the code as those of the definitions.
+-- The rejections of the code as those of the definitions.
 use Rattle.checker_rules.specs.Outcome as rules
 use Rattle.checker_rules.specs.Outcome.{Cause}
 use Rattle.checker_parts.specs.declared.error.CheckCause.{CheckCause}

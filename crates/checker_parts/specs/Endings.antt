@@ -1,5 +1,5 @@
 -- How a call of the checker ends: its answers in five classes.
---     Ending      accepted, refused, no step read, given up, or not begun
+--     Ending      accepted, rejected, no step read, given up, or not begun
 --     ending r, text_ending r      the end that an answer says, and that of an answer to the text of a formula
 --     reading_fault u      what a run over a proof's text meets where no step was read
 use Rattle.std.specs.Prelude.{ℕ, Result, Ok, Err}
@@ -23,7 +23,7 @@ pub data Loss : Type 0 where
   listener_faulted : Loss
   memory_refused : Loss
 
--- the call was accepted; refused with this cause, or out of steps to read, at this step number; given up; or not begun, since the checker had failed before
+-- the call was accepted; rejected with this cause, or out of steps to read, at this step number; given up; or not begun, since the checker had failed before
 pub data Ending : Type 0 where
   accepted : Ending
   refused : Cause → ℕ → Ending

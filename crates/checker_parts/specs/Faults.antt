@@ -2,7 +2,7 @@
 --     AnswersOutcome r o s      the answer r and the state s after the step are those of the outcome o; nothing where it gave up
 --     UnlessStopped r P      P, unless memory was refused or a processor answered a fault
 --     has_stopped r      whether one of the two happened
---     IsFaultOrMemory f P Q      P at a processor's fault, Q at out of memory; a refusal is not answered
+--     IsFaultOrMemory f P Q      P at a processor's fault, Q at out of memory; a rejection is not answered
 --     IsErrorOf n f e      e is the error of the fault f at the step number n, whatever text it shows
 --     IsAnswerOf n r a      a is the answer of the call whose step answered r
 use Rattle.std.specs.Prelude.{◌≡◌, ℕ, Bool, true, false, Some, None, Result, Ok, Err}
@@ -14,7 +14,7 @@ use Rattle.checker_parts.specs.declared.error.CheckerError.TheVariants as errors
 use Rattle.checker_parts.specs.declared.error.StepFault.{StepFault}
 use Rattle.checker_parts.specs.declared.error.StepFault.TheVariants.{Refused, Processor, OutOfMemory}
 
--- accepted, or refused with this cause, and the state after; nothing where memory was refused or a processor answered a fault
+-- accepted, or rejected with this cause, and the state after; nothing where memory was refused or a processor answered a fault
 abbrev pub AnswersOutcome : {A : Type 0} → Result A StepFault → Outcome → State → Type 0
 AnswersOutcome (Ok x) o s = (o.refused ≡ None) × (s ≡ o.after)
 AnswersOutcome (Err (Refused cause)) o s = (o.refused ≡ Some (cause_of cause)) × (s ≡ o.after)
@@ -35,13 +35,13 @@ has_stopped (Err (Refused cause)) = false
 has_stopped (Err Processor) = true
 has_stopped (Err OutOfMemory) = true
 
--- the first fact at a processor's fault, the second at out of memory; a refusal is not answered
+-- the first fact at a processor's fault, the second at out of memory; a rejection is not answered
 abbrev pub IsFaultOrMemory : StepFault → (fault memory : Type 0) → Type 0
 IsFaultOrMemory Processor P Q = P
 IsFaultOrMemory OutOfMemory P Q = Q
 IsFaultOrMemory (Refused cause) P Q = ⊥
 
--- a refusal names the step and the cause; of a processor's fault nothing is said
+-- a rejection names the step and the cause; of a processor's fault nothing is said
 abbrev pub IsErrorOf : ℕ → StepFault → CheckerError → Type 0
 IsErrorOf n f (errors.CheckFailed step cause debug_step) = (step ≡ n) × (f ≡ Refused cause)
 IsErrorOf n f (errors.ProofProcessorError cause) = f ≡ Processor

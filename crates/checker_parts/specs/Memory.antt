@@ -1,6 +1,6 @@
 -- What takes no memory.
 --     NeedsNoMemory r      out of memory is not the answer
---     lists_literals e      whether transcripts are told a list of literals of the checked step; it takes memory
+--     lists_literals e      whether transcripts get a list of literals of the checked step; it takes memory
 use Rattle.std.specs.Prelude.{◌≢◌, Bool, true, false, Result, Err}
 use Rattle.checker_rules.specs.CheckedSteps.{CheckedStep, checked_add_clause, checked_assumptions, checked_at_clause, checked_delete_at_clause, checked_delete_clause, checked_delete_rat_clause}
 use Rattle.checker_rules.specs.CheckedSteps.{checked_duplicated_clause, checked_failed_assumptions, checked_make_irredundant, checked_model, checked_tautological_clause, checked_user_var}

@@ -66,7 +66,7 @@ impl ProofTranscriptProcessor for Counts {
     }
 }
 
-/// One step is told, and the next one is answered by the fault.
+/// Boxes take one step, and return the fault of the next one.
 pub fn boxes(rt: &impl Abort, alloc: Global) -> Result<(), Fail> {
     let variables = Variables::new(alloc);
     let mut processor: Box<dyn ProofProcessor> = Box::new(alloc, ONE_STEP)?;

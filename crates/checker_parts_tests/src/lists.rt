@@ -40,7 +40,7 @@ fn is_copied(
     Ok(answer == is_tautology && target.as_slice() == wanted.as_slice())
 }
 
-/// Two lists, whether the first has to be a proper subset of the second, and whether it is one.
+/// Two lists, whether the first must be a proper subset of the second, and whether it is one.
 const SUBSETS: [(&[i64], &[i64], bool, bool); 5] = [
     (&[1], &[1, 2], true, true),
     (&[1, 2], &[1, 2], true, false),
@@ -55,6 +55,7 @@ fn is_part(alloc: Global, part: &[i64], whole: &[i64], strict: bool) -> Result<b
     Ok(is_subset(&part, &whole, strict))
 }
 
+/// Lists are copied in canonical form, and compared.
 pub fn lists(rt: &impl Abort, alloc: Global) -> Result<(), Fail> {
     let mut target = lits(alloc, &[-4])?;
     for (given, wanted, is_tautology) in &COPIES {

@@ -6,7 +6,7 @@ use sat_formula::{Lit, Var};
 use std::alloc::Global;
 use std::test::Fail;
 
-/// The literals of these DIMACS numbers.
+/// Returns the literals of these DIMACS numbers. Fails if one is no literal, or memory runs out.
 pub fn lits(alloc: Global, numbers: &[i64]) -> Result<Vec<Lit>, Fail> {
     let mut lits = Vec::new(alloc);
     for &number in numbers {
@@ -15,7 +15,7 @@ pub fn lits(alloc: Global, numbers: &[i64]) -> Result<Vec<Lit>, Fail> {
     Ok(lits)
 }
 
-/// The variable of this index.
+/// Returns the variable of this index. Fails if there is none.
 pub fn var(index: usize) -> Result<Var, Fail>
     ensures { IfOk result (λ v. index_of v ≡ index) }
 {

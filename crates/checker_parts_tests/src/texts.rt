@@ -65,7 +65,7 @@ const CAUSES: [(CheckCause, &str); 29] = [
     (StepsExhausted, "no step number left"),
 ];
 
-/// How the text of a refused step begins.
+/// How the text of a rejected step begins.
 const REFUSED: &str = "step 7: Checking proof failed: ";
 
 fn refused(alloc: Global, msg: CheckCause) -> CheckerError {
@@ -83,7 +83,7 @@ fn says<E: Display>(rt: &impl Abort, alloc: Global, error: &E, beginning: &str, 
     assert_eq!(rt; shown.text().strip_prefix(beginning), Some(text));
 }
 
-/// A cause has its text, and that stands in the text of a refused step.
+/// A cause has its text, which is in the text of a rejected step.
 pub fn causes(rt: &impl Abort, alloc: Global) {
     for (cause, text) in &CAUSES {
         says(rt, alloc, cause, "", text);
@@ -120,7 +120,7 @@ fn error_at(place: usize) -> CheckerError {
     }
 }
 
-/// Kinds of malformed texts, with the texts of such errors behind the number of the line.
+/// Kinds of malformed texts, with the texts of such errors after the number of the line.
 const KINDS: [(DimacsKind, &str); 5] = [
     (DimacsKind::BadNumber, "bad number"),
     (DimacsKind::VarTooLarge, "variable too large"),
@@ -129,6 +129,7 @@ const KINDS: [(DimacsKind, &str); 5] = [
     (DimacsKind::UnterminatedClause, "unterminated clause"),
 ];
 
+/// Errors have these texts.
 pub fn errors(rt: &impl Abort, alloc: Global) {
     for (place, text) in ERRORS.iter().enumerate() {
         says(rt, alloc, &error_at(place), "", text);

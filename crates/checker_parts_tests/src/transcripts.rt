@@ -11,6 +11,7 @@ use std::alloc::Global;
 use std::process::Abort;
 use std::test::Fail;
 
+/// Steps have these images.
 pub fn transcripts(rt: &impl Abort, alloc: Global) -> Result<(), Fail> {
     let mut variables = Variables::new(alloc);
     let mut transcript = Transcript::new(alloc);

@@ -82,6 +82,7 @@ fn play(rt: &impl Abort, variables: &mut Variables, rows: &[Row]) -> Result<(), 
     Ok(())
 }
 
+/// Variables have these names and modes after each call.
 pub fn variables(rt: &impl Abort, alloc: Global) -> Result<(), Fail> {
     let data = VarData::default();
     assert!(rt; LitData::default().clause_count == 0 && data.user_var.is_none());

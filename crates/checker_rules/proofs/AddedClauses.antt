@@ -18,7 +18,7 @@ use Rattle.checker_rules.proofs.WholeRuns.{calls_are_fold}
 abbrev Next : List (List ℕ) → State → Outcome
 Next cs r = add_clauses r cs
 
--- a refused clause changes nothing
+-- a rejected clause changes nothing
 refused_stays : (s : State) (c : List ℕ) (cause : Cause) → (step s (add_clause c)).refused ≡ Some cause → (step s (add_clause c)).after ≡ s
 unfolding step
 refused_stays s c cause h = grind arith
@@ -58,7 +58,7 @@ all_added : (s : State) (cs : List (List ℕ)) → (add_clauses s cs).refused �
 all_added s [] h = refl
 all_added s (c ∷ cs) h = grind (arith, all_added (step s (add_clause c)).after cs)
 
--- a refused clause changes nothing
+-- a rejected clause changes nothing
 -- the fold over clauses
 pub holds-clauses : (before : List Step) (cs : List (List ℕ)) (a : ℕ → Bool) → holds (before ++ map add_clause cs) a ≡ (holds before a && all_true a cs)
 holds-clauses before [] a = grind (arith, append_none before)

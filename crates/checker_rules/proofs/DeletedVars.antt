@@ -40,14 +40,14 @@ closings_run m s t w = go s.conflict t.conflict_named w.conflict_on_unit
         let put : RunTo m (named_in s (checked_at_clause s.next false [] (p.0 ∷ p.1 ∷ [])) ∷ []) (take_id s) = (((t.above_next, admitted), tt), only_id m s [] t) in
         grind arith
 
--- the unit of a variable goes
+-- the unit of a variable is removed
 run_unit_gone : (m : Machine) (s : State) (x : ℕ) → Mirrors m s → WellFormed s → RunTo m (emits_unit s x (unit_of s.units x)) (free_var x s)
 run_unit_gone m s x t w = grind (arith, freed_none m s x t, freed m s x)
 
 pub two_runs : (m : Machine) (xs ys : List NamedStep) (r : State) → IsRun m (hint_steps xs) → RunTo (machine_after m (hint_steps xs)) ys r → RunTo m (xs ++ ys) r
 two_runs m xs ys r h k = rw (hints-append xs ys) (rw after-append (run-append m (hint_steps xs) (hint_steps ys) h k.0, k.1))
 
--- the conflict is closed, and then the unit goes
+-- the conflict is closed, and then the unit is removed
 run_closed : (m : Machine) (s : State) (x : ℕ) → Mirrors m s → WellFormed s → ltb s.next id_limit ≡ true →
     is_conflict_on (unit_of s.units x) s.conflict ≡ true →
     RunTo m (emits_closing s s.conflict ++ emits_unit s x (unit_of s.units x)) (free_var x (close_conflict s))

@@ -32,7 +32,7 @@ put_rise m low (fails_core c ids ∷ es) h run = put_rise m low es h run.1
 pub put_ids_rise : PutIdsRise
 put_ids_rise m es run = put_rise m m.above es (omega arith) run
 
--- an accepted input clause, unless `unsat` stands
+-- an accepted input clause, unless `unsat` is recorded
 adds_one : (s : State) (c : List ℕ) → (step s (add_clause c)).refused ≡ None → s.unsat ≡ false → (step s (add_clause c)).after.next ≡ s.next + 1
 unfolding step
 adds_one s c h u = grind (arith, takes_input)

@@ -41,7 +41,7 @@ same-units : (s : State) (us : List (ℕ × ℕ)) → Same s (step_unit_clauses 
 same-units s [] = refl
 same-units s (p ∷ ps) = grind (arith, same-unit, same-units (step_unit s p).after ps)
 
--- an input clause counts, unless it is refused or `unsat` stands
+-- an input clause counts, unless it is rejected or `unsat` is recorded
 abbrev pub Counts : State → Outcome → Type 0
 Counts s o = (s.inputs ≤ o.after.inputs) × (s.unsat ≡ false → o.refused ≡ None → o.after.inputs ≡ suc s.inputs)
 

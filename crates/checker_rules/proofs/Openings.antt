@@ -1,4 +1,4 @@
--- The sealed definitions besides `step`, opened: for goals that name them.
+-- The sealed definitions except `step`, opened: for goals that name them.
 use Rattle.std.proofs.lemmas.Bool.{cond_both}
 use Rattle.checker_rules.specs.Run.{Stop, after_attempt, after_read, as_answer, move}
 use Rattle.std.proofs.Common.{◌≡◌, ℕ, Bool, true, false, ltb, Some, None, refl, ◌⊎◌, Option, inl, inr}

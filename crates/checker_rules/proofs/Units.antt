@@ -35,7 +35,7 @@ unit_from id (u ∷ us) (suc v) h = or_right (is_unit_with id u) (has_unit id us
 unit_kept : (id : ℕ) (us : List (Option StoredUnit)) (x : ℕ) (w : Option StoredUnit) → is_unit_with id (unit_of us x) ≡ false → has_unit id us ≡ true → has_unit id (set us x w) ≡ true
 unit_kept id us x w off h = let r = unit_at id us h in grind (arith, r.1, get_set us x w r.0, unit_from id (set us x w) r.0)
 
--- the conflict goes on standing: a unit set off it, more variables known, a conflict recorded
+-- the conflict stays: a unit set off it, more variables known, a conflict recorded
 pub stands_set : (us : List (Option StoredUnit)) (x : ℕ) (w : Option StoredUnit) (conflict : Option (ℕ × ℕ)) →
     is_conflict_on (unit_of us x) conflict ≡ false → conflict_stands us conflict ≡ true → conflict_stands (set us x w) conflict ≡ true
 stands_set us x w conflict off h = grind (arith, λ (id : ℕ). unit_kept id us x w)

@@ -139,7 +139,7 @@ steps_follow n k (lowers i false c ids ∷ es) w m h r q g =
     (rest.0, (refl, rest.1))
 steps_follow n k (fails_core c ids ∷ es) w m h r q g = steps_follow n k es w m h r q g.1
 
--- the clauses stand under the numbers from i on
+-- the clauses are under the numbers from i on
 abbrev StandFrom : (ℕ → Option (List ℕ)) → ℕ → List (List ℕ) → Type 0
 StandFrom f i [] = Unit {0}
 StandFrom f i (c ∷ cs) = (f i ≡ Some c) × StandFrom f (suc i) cs
@@ -160,7 +160,7 @@ listed_above : (cs : List (List ℕ)) (i : ℕ) (m : Machine) → m.above ≡ i 
 listed_above [] i m h = let p = h in omega arith
 listed_above (c ∷ cs) i m h = let p = listed_above cs (suc i) (put_id i c m) refl in omega arith
 
--- one input clause told
+-- one input clause delivered
 matches_input : (n j : ℕ) (w : Writer) (m : Machine) (h : Listed) (y : List ℕ) → Matches n j w m h → m.above ≡ j → h.machine.named (suc j) ≡ Some y → j < n →
     Matches n (j + 1) (after_written w (puts_input j (canonical y))) (put_id j (canonical y) m) h
 matches_input n j w m h y r exact stands low = record {
@@ -182,7 +182,7 @@ inputs_follow n es (y ∷ ys) j w m h r exact stands few q g =
     inputs_follow n es ys (j + 1) _ _ h (matches_input n j w m h y r exact stands.0 (omega arith)) (omega arith)
     (subst (λ x. StandFrom h.machine.named x ys) (omega arith) stands.1) (omega arith) q g.1
 
--- nothing told, and the whole formula listed
+-- nothing delivered, and the whole formula listed
 matches_new : (cs : List (List ℕ)) → Matches (length cs) 0 (new_writer (length cs)) empty_machine (listing cs)
 matches_new cs = record {
   announced = refl;

@@ -1,6 +1,6 @@
 -- Clauses added one after the other, as the calls `add_formula` and `add_dimacs_cnf` do.
---     add_clauses s cs      the outcome: the steps `AddClause` up to the first that is refused
---     added s cs      the clauses before the first refusal
+--     add_clauses s cs      the outcome: the steps `AddClause` up to the first that is rejected
+--     added s cs      the clauses before the first rejection
 --     FormulasAreFold, FormulasCover      what that changes: the accepted clauses count as steps
 --     FormulasJoin      a list of clauses added in two parts, as a loop does
 use Rattle.std.specs.Prelude.{◌≡◌, ℕ, Bool, List, [], ◌∷◌, ◌++◌, map, Option, Some, None}
@@ -14,23 +14,23 @@ use Rattle.checker_rules.specs.State.{State, sat}
 use Rattle.checker_rules.specs.Step.{Step, add_clause}
 use Rattle.checker_rules.specs.Steps.{step}
 
--- each clause as a step, up to the first that is refused
+-- each clause as a step, up to the first that is rejected
 abbrev pub add_clauses : State → List (List ℕ) → Outcome
 add_clauses s [] = accept s
 add_clauses s (c ∷ cs) = and_then (step s (add_clause c)) (λ r. add_clauses r cs)
 
--- the clause and those accepted after it, unless it is refused
+-- the clause and those accepted after it, unless it is rejected
 abbrev pub added_by : Option Cause → List ℕ → List (List ℕ) → List (List ℕ)
 added_by None c cs = c ∷ cs
 added_by (Some cause) c cs = []
 
--- the clauses before the first that is refused
+-- the clauses before the first that is rejected
 abbrev pub added : State → List (List ℕ) → List (List ℕ)
 added s [] = []
 added s (c ∷ cs) = added_by (step s (add_clause c)).refused c
     (added (step s (add_clause c)).after cs)
 
--- the satisfying set is the fold over the steps before and the accepted clauses; the state is the one before the refused clause
+-- the satisfying set is the fold over the steps before and the accepted clauses; the state is the one before the rejected clause
 pub record FormulasAreFold : Type 0 where
   pub fold : (s : State) (before : List Step) (cs : List (List ℕ)) → EntailsRedundant s →
       ((a : ℕ → Bool) → sat s a ≡ holds before a) →

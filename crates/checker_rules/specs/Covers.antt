@@ -1,6 +1,6 @@
--- The unsatisfiable side: whoever makes all that is stored true goes on doing so.
+-- The unsatisfiable side: whoever makes all that is stored true keeps doing so.
 --     Covers p s      the members p do
---     StepsCover      and go on doing so
+--     StepsCover      and continue doing so
 use Rattle.std.specs.Prelude.{◌≡◌, ℕ, Bool, true, not, ◌&&◌, Option, Some, None}
 use Rattle.checker_rules.specs.Headline.{changed}
 use Rattle.checker_rules.specs.Outcome.{Cause}
@@ -16,7 +16,7 @@ all_sat s a = not s.unsat && (stored_true a s.clauses && units_true a s.units)
 abbrev pub Covers : ((ℕ → Bool) → Bool) → State → Type 0
 Covers p s = (a : ℕ → Bool) → p a ≡ true → all_sat s a ≡ true
 
--- after an accepted step for the changed members, after a refused one for those before it
+-- after an accepted step for the changed members, after a rejected one for those before it
 abbrev pub CoversAfter : ((ℕ → Bool) → Bool) → Step → Option Cause → State → Type 0
 CoversAfter p t None r = Covers (changed t p) r
 CoversAfter p t (Some cause) r = Covers p r

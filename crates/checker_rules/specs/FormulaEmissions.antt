@@ -15,7 +15,7 @@ abbrev pub input_steps : ℕ → List (List ℕ) → List HintStep
 input_steps id [] = []
 input_steps id (c ∷ cs) = puts_input id (canonical c) ∷ input_steps (id + 1) cs
 
--- a beginning, since nothing more is emitted once `unsat` is recorded, nor from a refused clause on
+-- a beginning, since nothing more is emitted once `unsat` is recorded, nor from a rejected clause on
 abbrev pub FormulasEmit : Type 0
 FormulasEmit = (s : State) (cs : List (List ℕ)) (es : List NamedStep) →
     EmitsCalls s (map adds (added s cs)) es →

@@ -28,7 +28,7 @@ pub record HintLineRows : Type 0 where
   -- the second of three is falsified, and not unit
   pub early_conflict : line_cause opposite_units (adds_clause 5 [] (1 ∷ 2 ∷ 2 ∷ [])) ≡ Some not_unit
   pub unknown_hint : line_cause opposite_units (adds_clause 5 [] (3 ∷ 2 ∷ [])) ≡ Some unknown_id
-  -- a clause that stands may be added again, and its id is not free after its deletion
+  -- a stored clause may be added again, and its id is not free after its deletion
   pub repeated : line_cause opposite_units (adds_clause 5 (pos 1 ∷ []) (1 ∷ [])) ≡ None
   pub repeated_empty : (after_line opposite_units
       (adds_clause 5 (pos 1 ∷ []) (1 ∷ []))).added_empty ≡ false

@@ -27,7 +27,7 @@ pub record HintRows : Type 0 where
   pub removed_id : (c : List ℕ) → IsRun two_clauses (removes 4 ∷ puts_input 4 c ∷ []) → ⊥
   pub skipped_id : IsRun two_clauses (puts_input 9 [] ∷ [])
   pub removed_clause : IsRun two_clauses (removes 3 ∷ puts_derived 5 [] (3 ∷ 4 ∷ []) ∷ []) → ⊥
-  -- a deletion does not rest on its own clause, and removes it unless it is kept
+  -- a deletion does not rely on its own clause, and removes it unless it is kept
   pub own_id : MayDo two_clauses (lowers 3 false (pos 1 ∷ []) (3 ∷ [])) → ⊥
   pub lowered : IsRun two_clauses (lowers 4 false (pos 1 ∷ pos 2 ∷ []) (3 ∷ []) ∷
       puts_derived 5 [] (3 ∷ 4 ∷ []) ∷ []) → ⊥

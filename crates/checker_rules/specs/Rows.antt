@@ -1,6 +1,6 @@
 -- Worked rows: calls from a state, and what each of them answers.
 --     pos n, neg n      literals by their DIMACS numbers
---     Answer      accepted, or refused for a cause at a step number, with the steps emitted
+--     Answer      accepted, or rejected for a cause at a step number, with the steps emitted
 --     answers s calls, transcribed s calls      what a list of calls answers; what a transcript takes of it
 --     shown_names s call      the names shown with what a call emits
 --     call ⇒ answer, Plays s row      a line of a row; the row holds
@@ -12,7 +12,7 @@ use Rattle.checker_rules.specs.State.{Known, State, Stored}
 use Rattle.checker_rules.specs.Traced.{traced_by}
 use Rattle.checker_rules.specs.Transcript.{TranscriptStep, images}
 
--- what a call answers, with the steps that it emits; a refusal bears the number of steps attempted
+-- what a call answers, with the steps that it emits; a rejection bears the number of steps attempted
 pub data Answer : Type 0 where
   accepts : List CheckedStep → Answer
   refuses : Cause → ℕ → List CheckedStep → Answer
@@ -25,11 +25,11 @@ quiet = accepts []
 abbrev pub emits : CheckedStep → Answer
 emits e = accepts (e ∷ [])
 
--- refused without a step
+-- rejected without a step
 abbrev pub fails : Cause → ℕ → Answer
 fails cause n = refuses cause n []
 
--- by whether the call is refused
+-- by whether the call is rejected
 abbrev pub answer_by : Option Cause → State → List CheckedStep → Answer
 answer_by None after es = accepts es
 answer_by (Some cause) after es = refuses cause after.steps es

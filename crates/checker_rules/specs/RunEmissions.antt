@@ -1,5 +1,5 @@
 -- What a run over a text emits, and that it is a run of the hint machine.
---     last_calls next s x      the call in which a run ends: the closing conflict, the refused step, or none
+--     last_calls next s x      the call in which a run ends: the closing conflict, the rejected step, or none
 --     EmitsRun next s x ts es      what the run emits that accepts ts
 --     RunsRunMachine      it is a run of the hint machine, whose map follows the state
 use Rattle.std.specs.Prelude.{◌≡◌, ◌⊎◌, if◌then◌else◌, nat_lt, List, [], ◌∷◌, ◌++◌, map, Option}

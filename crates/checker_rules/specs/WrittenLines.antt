@@ -1,5 +1,5 @@
 -- The lines that a writer of hints writes of steps, and that a checker of hints accepts those of a run.
---     Writer, new_writer n      what a writer knows: the announced number of clauses, and what it was told
+--     Writer, new_writer n      what a writer knows: the announced number of clauses, and what was delivered to it
 --     number_of w i      the number by which an id is written
 --     line_of w e      the line of a step, where it has one
 --     WriterFault, writer_fault w e      when the writer answers a fault
@@ -12,7 +12,7 @@ use Rattle.checker_rules.specs.CallEmissions.{empty_machine}
 use Rattle.checker_rules.specs.FormulaEmissions.{input_steps}
 use Rattle.checker_rules.specs.HintRun.{HintStep, IsRun, fails_core, lowers, puts_derived, puts_input, removes}
 
--- the announced number, the ids of the input clauses told and how many they were, whether a derived clause was told, the number of the last addition
+-- the announced number, the ids of the input clauses delivered and how many they were, whether a derived clause was delivered, the number of the last addition
 pub record Writer : Type 0 where
   pub announced : ℕ
   pub inputs : ℕ → Bool
@@ -20,7 +20,7 @@ pub record Writer : Type 0 where
   pub derived : Bool
   pub last : ℕ
 
--- a writer that was told nothing
+-- a writer to which nothing was delivered
 abbrev pub new_writer : ℕ → Writer
 new_writer n = record { announced = n; inputs = λ i. false; told = 0; derived = false; last = n }
 
@@ -28,7 +28,7 @@ new_writer n = record { announced = n; inputs = λ i. false; told = 0; derived =
 abbrev pub number_of : Writer → ℕ → ℕ
 number_of w i = if w.inputs i then suc i else w.announced + suc i
 
--- an addition of a derived clause, a deletion of one that goes
+-- an addition of a derived clause, a deletion of one that is removed
 abbrev pub line_of : Writer → HintStep → List HintLine
 line_of w (puts_input i c) = []
 line_of w (puts_derived i c ids) = adds_clause (w.announced + suc i) c (map (number_of w) ids) ∷ []

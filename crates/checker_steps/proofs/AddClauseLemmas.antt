@@ -9,7 +9,7 @@ use Rattle.checker_parts.specs.declared.error.CheckCause.{CheckCause}
 use Rattle.checker_steps.specs.declared.steps.add_clause.Added.{Added}
 use Rattle.checker_steps.proofs.EmissionLemmas.{emits-accepted}
 
--- refused with the cause, where there is one
+-- rejected with the cause, where there is one
 abbrev pub by_cause : Option Cause → State → Outcome → Outcome
 by_cause None s o = o
 by_cause (Some cause) s o = refuse cause s
@@ -24,7 +24,7 @@ add-by s ls live = step-add_clause s ls ∙ grind (arith, live)
 pub add-accepts : (s : State) (ls : List ℕ) → s.unsat ≡ false → input_cause s (canonical ls) ≡ None → step s (add_clause ls) ≡ accept (taken s (canonical ls))
 add-accepts s ls live e = add-by s ls live ∙ grind (arith, e)
 
--- the refusal of an input clause
+-- the rejection of an input clause
 pub answers-input : (msg : CheckCause) (s : State) (ls : List ℕ) → s.unsat ≡ false → input_cause s (canonical ls) ≡ Some (cause_of msg) →
     AnswersOutcome {A = Unit {0}} (Err (Refused msg)) (step s (add_clause ls)) s
 answers-input msg s ls live named =
@@ -61,7 +61,7 @@ module _ (s : State) (c : List ℕ) (none : early_cause s c ≡ None) where
   pub early-room : count_of false c s.clauses < count_limit → input_cause s c ≡ None
   early-room few = grind (arith, none, lt-leb count_limit (count_of false c s.clauses) few)
 
--- the refusal where the clause was not stored
+-- the rejection where the clause was not stored
 pub answers-unstored_input : (fault : StoreFault) (s t : State) (ls : List ℕ) → s.unsat ≡ false → early_cause s (canonical ls) ≡ None →
     IsFaultOf fault (canonical ls) s t → AnswersOutcome {A = Unit {0}} (Err (store_fault fault)) (step s (add_clause ls)) t
 answers-unstored_input fault s t ls live none h = grind (arith, answers-input)

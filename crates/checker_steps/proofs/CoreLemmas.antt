@@ -49,7 +49,7 @@ module _ (s : State) (ls hs c : List ℕ) (list : c ≡ canonical ls) where
   core-by : (cause : Option Cause) → core_cause s c ≡ cause → step s (failed_assumptions ls hs) ≡ by_cause cause s (ended_by (is_tautology c) s c hs)
   core-by cause e = grind (arith, step-failed_assumptions)
 
-  -- it is refused before its check
+  -- it is rejected before its check
   pub core-refused : (cause : Cause) → core_cause s c ≡ Some cause → step s (failed_assumptions ls hs) ≡ refuse cause s
   core-refused cause e = core-by (Some cause) e
 
@@ -75,7 +75,7 @@ module _ (s : State) (ls hs c : List ℕ) (list : c ≡ canonical ls) where
     pub core-traced : is_tautology c ≡ false → core_steps s c hs ≡ traced s (failed_assumptions ls hs)
     core-traced e = rw (core-checked e) (same-when e (check s (core_clause c) hs accept).refused)
 
--- the check refuses
+-- the check rejects
 pub core-unchecked : (s : State) (c hs : List ℕ) (cause : Cause) → (check s (core_clause c) hs accept).refused ≡ Some cause → [] ≡ core_steps s c hs
 core-unchecked s c hs cause e = rw e
 

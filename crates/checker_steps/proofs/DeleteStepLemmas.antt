@@ -16,7 +16,7 @@ use Rattle.checker_steps.specs.DeletionSteps.{deletion_steps}
 use Rattle.checker_steps.specs.Justified.{AnswersJustified, implying_id, of_redundant}
 use Rattle.checker_steps.proofs.EmissionLemmas.{quiet-refusal}
 
--- a tautology is refused
+-- a tautology is rejected
 pub delete-tautology : (s : State) (j : Justification) (ls : List ℕ) → is_tautology (canonical ls) ≡ true → step s (delete_clause j ls) ≡ refuse tautology s
 delete-tautology s j ls h = step-delete_clause s j ls ∙ ap (λ b. cond b (refuse tautology s) (justified j (canonical ls) s)) h
 
@@ -61,7 +61,7 @@ module _ (c : List ℕ) (s : State) (apart : are_apart s.clauses ≡ true) (whol
   emits-deleted j ls r implying id t did list why kind d =
       ap (λ o. deletion_steps s.known o did id c) why ∙ emits-by j id t did (subst (λ b. Deletes c b (forget s) t id did) (sym kind) d) ∙ ap (emits_deletion s j) list
 
--- a refused deletion delivers nothing on
+-- a rejected deletion delivers nothing on
 module _ {P T : Type 0} (listens : Listens P) (listens_image : ListensImage T)
     (s u : State) (t : Step) (r : Bool) (old : Listeners P T) (quiet : EmitsRefused s t []) where
   pub delivered-fault : (f : DeleteFault) → AnswersOutcome {A = Unit {0}} (Err (delete_fault f r)) (step s t) u →

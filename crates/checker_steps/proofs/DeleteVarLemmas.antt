@@ -89,7 +89,7 @@ module _ (s t : State) (x : ℕ) (is : t ≡ know (suc x) s) where
     closed-by : (r : Option Cause) → (close_on x t).refused ≡ r → step s (delete_var x) ≡ and_then_by r (close_on x t).after (λ r. accept (free_var x r))
     closed-by r h = delete-by false false unnamed free ∙ ap (λ r. and_then_by r (close_on x t).after (λ r. accept (free_var x r))) h
 
-    -- where closing is refused
+    -- where closing is rejected
     pub delete-unclosed : (cause : Cause) → (close_on x t).refused ≡ Some cause → step s (delete_var x) ≡ refuse cause (close_on x t).after
     delete-unclosed cause h = closed-by (Some cause) h
 
@@ -108,7 +108,7 @@ some-indexes_of o = grind arith
 pub named-is : (d : VarData) (k : Known) (b : Bool) → known_of_data d ≡ k → b ≡ is_some d.user_var → is_some k.name ≡ b
 named-is d k b read is = ap (λ (x : Known). is_some x.name) (sym read) ∙ some-indexes_of d.user_var ∙ sym is
 
--- a conflict whose closing is refused emits nothing, and one that emits is closed
+-- a conflict whose closing is rejected emits nothing, and one that emits is closed
 close-by : (x : ℕ) (t : State) → ((close_on x t).refused ≡ None) ⊎ (emits_close x t ≡ [])
 close-by x t = grind arith
 
@@ -122,7 +122,7 @@ module _ {P T : Type 0} (listens : Listens P) (listens_image : ListensImage T)
   emits : (close_on x t).refused ≡ None → Emits s (delete_var x) (emits_close x t ++ emits_dropped x t)
   emits closed = emits-closed s t x is unnamed free closed
 
-  -- a closing that is refused, or delivered on to a fault, ends the step
+  -- a closing that is rejected, or delivered on to a fault, ends the step
   pub delivered-unclosed : (e : StepFault) (r : State) (old new : Listeners P T) → AnswersOutcome {A = Unit {0}} (Err e) (close_on x t) r →
       DeliveredList {A = Unit {0}} (Err e) (λ es. es ≡ emits_close x t) listens listens_image old new
       → DeliveredList {A = Unit {0}} (Err e) (Emits s (delete_var x)) listens listens_image old new

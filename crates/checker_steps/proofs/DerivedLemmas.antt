@@ -19,12 +19,12 @@ stored_steps-is : (s : State) (redundant : Bool) (c ids : List ℕ) (did : Store
     id ≡ id_of c s → stored_steps did s.known id redundant c ids ≡ steps_of s redundant c ids
 stored_steps-is s redundant c ids did id d i = rw (d, i) (grind (arith, and-false))
 
--- what is left after the check, passed or refused
+-- what is left after the check, passed or rejected
 pub check-after : (s : State) (c hs : List ℕ) → (check s c hs accept).after ≡ ready s c
 check-after s c hs = grind arith
 
 module _ (s : State) (redundant : Bool) (c hs : List ℕ) where
-  -- the check refuses
+  -- the check rejects
   pub derived-unchecked : (cause : Cause) → (check s c hs accept).refused ≡ Some cause → derived s redundant c hs ≡ refuse cause (check s c hs accept).after
   derived-unchecked cause e = grind (arith, e)
 
@@ -62,7 +62,7 @@ abbrev pub kept_as_previous : Bool → List ℕ → ℕ → State → State
 kept_as_previous redundant c id s = cond redundant s (set_previous c id s)
 
 module _ (s : State) (redundant : Bool) (ls hs : List ℕ) where
-  -- a tautology is refused
+  -- a tautology is rejected
   pub at-tautology : is_tautology (canonical ls) ≡ true → step s (at_clause redundant ls hs) ≡ refuse tautology s
   at-tautology h = step-at_clause s redundant ls hs ∙ rw h
 
@@ -75,7 +75,7 @@ module _ (s : State) (redundant : Bool) (ls hs : List ℕ) where
     at-derived : step s (at_clause redundant ls hs) ≡ and_then (derived s redundant c hs) after
     at-derived = step-at_clause s redundant ls hs ∙ rw (apart, ← list) (grind arith)
 
-    -- the check or a counter refuses
+    -- the check or a counter rejects
     pub at-refused : (cause : Cause) → (derived s redundant c hs).refused ≡ Some cause → step s (at_clause redundant ls hs) ≡ refuse cause (derived s redundant c hs).after
     at-refused cause e = at-derived ∙ grind (arith, e)
 

@@ -1,12 +1,12 @@
--- What a step answers, emits and delivers on, where it is accepted, refused or met by a fault.
+-- What a step answers, emits and delivers on, where it is accepted, rejected or met by a fault.
 --     emits-accepted, emits-refused, answers-accept, answers-found      where it is accepted, and where a cause was found
 --     all-one, all-fault, all-second      steps delivered on one after the other
 --     delivered-all, answers-delivers, answers-all, unless-stopped      the clauses of a step that ends with them
---     delivered-refused      a part that refuses hands nothing on
+--     delivered-refused      a part that rejects hands nothing on
 --     answers-fault, delivered-fault      a fault where steps are delivered on
 --     delivered-unless-memory      where only memory can fail
 --     kept-after      what the parts keep, where the step answers an outcome
---     quiet-refusal      a refusal that emits nothing delivers nothing on
+--     quiet-refusal      a rejection that emits nothing delivers nothing on
 --     emits-closed, traced-emits      the closing conflict, and steps with the traces of their checks
 use Rattle.std.specs.Result.{OnErr, OnOk}
 use Rattle.std.proofs.Common.{◌≡◌, List, Option, None, Some, Result, Err, refl, sym, ap, ◌∙◌, subst, arith, [], ◌∷◌, ◌++◌, ℕ, ◌<◌, false, ltb, lt-ltb}
@@ -32,7 +32,7 @@ emits-refused s t es cause h k = subst (λ (o : Option Cause). EmitsBy o s t es)
 pub answers-accept : {o : Outcome} {s t : State} → o ≡ accept s → t ≡ s → (o.refused ≡ None) × (t ≡ o.after)
 answers-accept is same = (ap (λ (x : Outcome). x.refused) is, same ∙ sym (ap (λ (x : Outcome). x.after) is))
 
--- a refusal with the cause that was found
+-- a rejection with the cause that was found
 pub answers-found : (msg : CheckCause) (found : Option Cause) (o : Outcome) (s : State) → found ≡ Some (cause_of msg) →
     ((cause : Cause) → found ≡ Some cause → o ≡ refuse cause s) → AnswersOutcome {A = Unit {0}} (Err (Refused msg)) o s
 answers-found msg found o s named refused = answers-refuse (cause_of msg) o s s (refused (cause_of msg) named) refl
@@ -106,7 +106,7 @@ module _ {P T : Type 0} (listens : Listens P) (listens_image : ListensImage T) w
 -- ---- parts of a call that hand nothing on
 
 module _ {P T : Type 0} (listens : Listens P) (listens_image : ListensImage T) where
-  -- a part that refuses
+  -- a part that rejects
   pub delivered-refused : (A : Type 0) (e : StepFault) (E : List NamedStep → Type 0) (o : Outcome) (s : State) (old : Listeners P T) →
       NoListenerFault {A = Unit {0}} (Err e) → ((cause : Cause) → o.refused ≡ Some cause → E []) → AnswersOutcome {A = Unit {0}} (Err e) o s
       → DeliveredList {A = A} (Err e) E listens listens_image old old

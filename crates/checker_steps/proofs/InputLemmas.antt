@@ -64,11 +64,11 @@ tautology-few c s form h = grind (arith, stored-fine, count_of-absent, count_lim
 pub fault-known : (fault : StoreFault) (c : List ℕ) (s t : State) → WellFormed s → IsFaultOf fault c (know_clause c s) t → IsFaultOf fault c s t
 fault-known fault c s t form h = grind (arith, count_limit-some, know-stored, some-stored)
 
--- what storing refused, in the words of the step
+-- what storing rejected, in the words of the step
 pub fault-stored : (fault : StoreFault) (c : List ℕ) (s t : State) → s.next < id_limit → AnswersStore (Err fault) c false s t → IsFaultOf fault c s t
 fault-stored fault c s t room h = grind (arith, lt-ltb, and-false, leb-true)
 
--- what the answer of storing tells of the clause before
+-- what the answer of storing says of the clause before
 abbrev pub Tells : StoreClauseResult → (stood only_redundant : Bool) → Type 0
 Tells results.New stood only_redundant = stood ≡ false
 Tells results.Duplicate stood only_redundant = (stood ≡ true) × (only_redundant ≡ false)
@@ -101,7 +101,7 @@ module _ {c : List ℕ} {s t : State} {id : ℕ} {did : StoreClauseResult} (is :
     pub emits-new : stands c s ≡ false → emitted_of (New id) c s.known ≡ emits_input c s
     emits-new h = grind (arith, is.id_is, e, h)
 
-    -- a clause that stands takes an id of its own
+    -- a stored clause takes an id of its own
     pub input-repeated : stands c s ≡ true → take_id t ≡ store_input c s
     input-repeated h = ap take_id is.after ∙ grind (arith, e, h)
 

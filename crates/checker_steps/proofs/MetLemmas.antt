@@ -15,7 +15,7 @@ use Rattle.clause_store.proofs.GatheredLemmas.{in_other_order}
 abbrev pub clauses_in : List Bucket → List Clause
 clauses_in bs = flat_map clauses_of bs
 
--- they lie in the buffer
+-- they are in the buffer
 abbrev pub AllWithin : List ℕ → List Bucket → Type 0
 AllWithin buffer bs = All (λ c. IsWithin c.lits buffer) (clauses_in bs)
 

@@ -41,7 +41,7 @@ causes_from-none s f ls none = let same : f ≡ (λ k. has k []) = λ i k. none 
 pub causes_from-goes : (s : State) (f g : ℕ → Bool) (l : ℕ) (ls : List ℕ) → lit_cause s f l ≡ None → g ≡ add_lit l f → causes_from s g ls ≡ causes_from s f (l ∷ ls)
 causes_from-goes s f g l ls none marked = grind (arith, none, marked)
 
--- a literal that is refused is the first one
+-- a literal that is rejected is the first one
 pub cause-first : (cause : Cause) (s : State) (f : ℕ → Bool) (l : ℕ) (ls : List ℕ) (found : Option Cause) → causes_from s f (l ∷ ls) ≡ found → lit_cause s f l ≡ Some cause → found ≡ Some cause
 cause-first cause s f l ls found e h = grind (arith, e, h)
 

@@ -1,4 +1,4 @@
--- The steps on user names and modes, part by part. Each is told over the state r in which the variable is known.
+-- The steps on user names and modes, part by part. Each is stated over the state r in which the variable is known.
 use Rattle.std.proofs.Common.{◌≡◌, ℕ, suc, Bool, true, false, cond, List, [], ◌∷◌, Option, None, Some, is_none, is_some, ap, arith}
 use Rattle.sat_formula.specs.declared.lit.Var.{Var}
 use Rattle.checker_steps.proofs.Common.{NamedStep, checked_user_var, named_in, Emits, is_sample, know, known_of}

@@ -14,7 +14,7 @@ list_of-empty buffer m e = ap (λ es. by_id (flat_map (stored_in buffer m) (keys
 
 module _ (st : CheckerState) (h : ClauseHasher) (cs : Clauses) (fresh : IsNewState st) (bits : h.hash_bits ≡ 64) (names : applied_of h ≡ (λ v. None))
     (pending : pending_of h ≡ []) (empty : IsEmptyStore cs) where
-  -- the parts stand for the state of a new checker
+  -- the parts represent the state of a new checker
   pub state_of-new : state_of st h cs [] ≡ new_state
   state_of-new = grind (arith, list_of-empty)
 

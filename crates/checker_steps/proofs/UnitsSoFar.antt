@@ -17,7 +17,7 @@ drop-pair us i p within here = rw (add-one, drop-cons us i p within, ← here)
 abbrev unit_steps : State → ℕ × ℕ → List NamedStep
 unit_steps s p = derived_steps s false (p.0 ∷ []) (p.1 ∷ [])
 
--- what comes after a pair, unless it is refused
+-- what comes after a pair, unless it is rejected
 abbrev later_steps : Option Cause → List NamedStep → List NamedStep
 later_steps None es = es
 later_steps (Some cause) es = []
@@ -72,7 +72,7 @@ module _ {P T : Type 0} {listens : Listens P} {listens_image : ListensImage T} w
           ran = both_ran_append _ _ far.told more.0 _ _ _ _ _ _ far.ran more.2;
         }
 
-    -- the pair is refused, or a processor faults at it
+    -- the pair is rejected, or a processor faults at it
     pub so-far-refused : (e : StepFault) (t : State) → AnswersOutcome {A = Unit {0}} (Err e) (step_unit r p) t →
         AnswersOutcome {A = Unit {0}} (Err e) (step s (unit_clauses us)) t
     so-far-refused e t h = grind (arith, step-unit_clauses s us, far.same_outcome, h)

@@ -1,4 +1,4 @@
--- Steps that transcripts can't tell apart, where no processor is registered.
+-- Steps that transcripts can't distinguish, where no processor is registered.
 use Rattle.std.proofs.Common.{◌≡◌, ◌==◌, ℕ, Bool, true, not, List, [], ◌∷◌, length, Result, refl, ap, ◌∙◌, subst, arith}
 use Rattle.checker_steps.proofs.Common.{ne_eqb, NamedStep, image, StepFault, Listeners, Listens, ListensImage}
 use Rattle.checker_steps.proofs.Common.{DeliveredStep, IsTraceFor}

@@ -5,7 +5,7 @@ use Rattle.clause_store.specs.StateOf.{state_of}
 use Rattle.checker_steps.specs.Delivered.{Listeners, listeners_of}
 use Rattle.checker_steps.specs.declared.context.ContextOf.{ContextOf}
 
--- the state that the parts stand for
+-- the state that the parts represent
 abbrev pub context_state : {P T : Type 0} → ContextOf P T → State
 context_state c = state_of c.checker_state c.clause_hasher c.clauses c.variables
 

@@ -9,7 +9,7 @@ use Rattle.clause_store.specs.declared.clauses.DeleteClauseResult.TheVariants.{U
 abbrev pub one_step : List Known → CheckedStep → List NamedStep
 one_step names e = record { step = e; names = names } ∷ []
 
--- by what the deletion did to the clause of the id, and by the id of the clause that implies it: a redundant clause that goes, an irredundant one that goes or becomes redundant
+-- by what the deletion did to the clause of the id, and by the id of the clause that implies it: a redundant clause that is removed, an irredundant one that is removed or becomes redundant
 abbrev pub deletion_steps : List Known → Option ℕ → DeleteClauseResult → ℕ → List ℕ → List NamedStep
 deletion_steps names None Removed id c = one_step names (checked_delete_clause id c)
 deletion_steps names None NewlyRedundant id c = []

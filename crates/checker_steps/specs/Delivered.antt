@@ -83,7 +83,7 @@ DeliveredAll (Err faults.Processor) es listens listens_image old new =
 DeliveredAll (Err faults.OutOfMemory) es listens listens_image old new = Unit {0}
 DeliveredAll (Err (faults.Refused cause)) es listens listens_image old new = ⊥
 
--- a list of E is delivered on, accepted or refused, up to a fault; nothing is said where memory was refused
+-- a list of E is delivered on, accepted or rejected, up to a fault; nothing is said where memory was refused
 abbrev pub DeliveredList : {A P T : Type 0} → Result A StepFault → (List NamedStep → Type 0) →
     Listens P → ListensImage T → Listeners P T → Listeners P T → Type 0
 DeliveredList (Ok done) E listens listens_image old new =
@@ -103,7 +103,7 @@ DeliveredEnd (given_up memory_refused) E listens listens_image old new = Unit {0
 DeliveredEnd had_failed E listens listens_image old new = old ≡ new
 DeliveredEnd _ E listens listens_image old new = DeliveredWhole E listens listens_image old new
 
--- a call that emits a list of E, accepted or refused, by its answer
+-- a call that emits a list of E, accepted or rejected, by its answer
 abbrev pub Delivered : {A P T : Type 0} → Result A CheckerError → (List NamedStep → Type 0) →
     Listens P → ListensImage T → Listeners P T → Listeners P T → Type 0
 Delivered r E listens listens_image old new =

@@ -3,7 +3,7 @@
 --     derived s redundant c hs      the check, then the counters, then the clause stored
 --     stored_steps did names id redundant c ids      what is delivered on of a clause, by what storing it did
 --     derived_steps s redundant c hs      what is delivered on of a derived clause, with the trace of its check
---     IsTraceFor processors told ids      processors can't tell the two lists apart
+--     IsTraceFor processors told ids      processors can't distinguish the two lists
 use Rattle.std.specs.Prelude.{◌≡◌, ℕ, Bool, not, List, [], ◌∷◌, Option, None, Some}
 use Rattle.checker_rules.specs.Check.{check, ready}
 use Rattle.checker_rules.specs.CheckedSteps.{NamedStep, checked_at_clause, checked_make_irredundant}
@@ -32,7 +32,7 @@ stored_steps NewlyIrredundant names id redundant c ids =
     record { step = checked_make_irredundant id c; names = names } ∷ []
 stored_steps Duplicate names id redundant c ids = []
 
--- the steps, or none where it is refused
+-- the steps, or none where it is rejected
 abbrev pub steps_unless : Option Cause → List NamedStep → List NamedStep
 steps_unless None es = es
 steps_unless (Some cause) es = []
@@ -42,6 +42,6 @@ abbrev pub derived_steps : State → Bool → List ℕ → List ℕ → List Nam
 derived_steps s redundant c hs = steps_unless (derived s redundant c hs).refused
     (traced_derived (ready s c) redundant c hs)
 
--- the ids are those that are told, where a processor is registered; transcripts see no propagations
+-- the ids are those that are delivered, if a processor is registered; transcripts see no propagations
 abbrev pub IsTraceFor : {P : Type 0} → List P → List ℕ → List ℕ → Type 0
 IsTraceFor processors told ids = (processors ≡ [] → ⊥) → told ≡ ids

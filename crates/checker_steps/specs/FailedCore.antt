@@ -1,4 +1,4 @@
--- Why a failed core is refused before its check, and what its check delivers on.
+-- Why a failed core is rejected before its check, and what its check delivers on.
 --     core_cause s c      the first cause that applies to a canonical core
 --     core_clause c      the clause that says that the core fails
 --     core_steps s c hs      what is delivered on of a core without opposite literals, with the trace of its check

@@ -1,6 +1,6 @@
--- Why an input clause is refused, and what becomes of one that is not.
+-- Why an input clause is rejected, and what becomes of one that is not.
 --     input_cause s c      the first cause that applies to a canonical list
---     early_cause s c      the first of those that are told before the stored clauses are looked at
+--     early_cause s c      the first of those that are found before the stored clauses are read
 --     IsFaultOf f c s t      why the clause was not stored after that, and the state t then
 --     taken s c      the state with the clause taken
 use Rattle.std.specs.Prelude.{ℕ, ◌≡◌, ◌≤◌, List, if◌then◌else◌, not, nat_lt, nat_le, false, Option, None, Some}
@@ -22,7 +22,7 @@ input_cause s c =
     else if nat_le count_limit (count_of false c s.clauses) then Some count_exhausted
     else None
 
--- the first of the causes that are told before the stored clauses are looked at
+-- the first of the causes that are found before the stored clauses are read
 abbrev pub early_cause : State → List ℕ → Option Cause
 early_cause s c =
     if some_not_sampling s c then Some not_sampling

@@ -20,13 +20,13 @@ previous_of st = option_map (λ id. (st.previous_lits.items, id)) st.previous_id
 abbrev pub subsuming_id : Option (List ℕ × ℕ) → List ℕ → Option ℕ
 subsuming_id previous c = if subsumed_by previous c then Some (previous_id previous) else None
 
--- whether a redundant copy goes
+-- whether a redundant copy is removed
 abbrev pub of_redundant : Justification → Bool
 of_redundant by_redundant = true
 of_redundant by_satisfied = false
 of_redundant by_simplified = false
 
--- the id of the clause that implies the one that goes; a redundant one needs none
+-- the id of the clause that implies the one that is removed; a redundant one needs none
 abbrev pub implying_id : Justification → List ℕ → State → Option ℕ
 implying_id by_redundant c s = None
 implying_id by_satisfied c s = Some (unit_id (unit_of s.units (var_of (first_true s.units c))))

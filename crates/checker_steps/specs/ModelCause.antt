@@ -1,6 +1,6 @@
 -- Why a list of literals is no model. Its literals are marked.
 --     lit_cause s listed l      why a literal can't be listed beside those of a set
---     list_cause s m      why a list is refused where `unsat` is not recorded
+--     list_cause s m      why a list is rejected where `unsat` is not recorded
 --     IsJudged r cause      the answer of the code names that cause
 use Rattle.std.specs.Prelude.{ℕ, ◌≡◌, Bool, if◌then◌else◌, not, List, [], Option, Some, None, Result, Ok, Err}
 use Rattle.std.specs.List.{list_all, list_any}
@@ -37,7 +37,7 @@ missing_cause s m =
     else if not (list_all (λ e. has_some e.lits m) s.clauses) then Some model_misses_clause
     else None
 
--- why the list is refused where `unsat` is not recorded
+-- why the list is rejected where `unsat` is not recorded
 abbrev pub list_cause : State → List ℕ → Option Cause
 list_cause s m = first_cause (model_cause s [] m) (missing_cause s m)
 

@@ -33,7 +33,7 @@ abbrev pub IsNamingCause : Option CheckCause → List Known → ℕ → ℕ → 
 IsNamingCause None known x u = naming_cause known x u ≡ None
 IsNamingCause (Some msg) known x u = naming_cause known x u ≡ Some (cause_of msg)
 
--- why a known variable keeps its mode, where that is refused
+-- why a known variable keeps its mode, where that is rejected
 abbrev pub mode_cause : List Known → ℕ → Bool → Option Cause
 mode_cause known x to_sample =
     if mode_is (known_at known x).mode to_sample then None

@@ -58,11 +58,11 @@ module _ (l : ℕ) (r : Bool) (s : State) (few : count_of r (l ∷ []) s.clauses
   unit-conflict u here other room =
       grind (arith, counters-accept r (l ∷ []) (not (stands (l ∷ []) s)) s accept (λ e. room) few)
 
--- no id is left for a clause that does not stand
+-- no id is left for a clause that is not stored
 pub answers-ids : (c : List ℕ) (r : Bool) (s : State) → stands c s ≡ false → id_limit ≤ s.next → store_counters c r s ≡ refuse ids_exhausted s
 answers-ids c r s other none = grind (arith, nat_tests)
 
--- a clause that does not stand takes an id, if one is left
+-- a clause that is not stored takes an id, if one is left
 pub answers-new : (res : Result (ℕ × StoreClauseResult) StoreFault) (c : List ℕ) (r : Bool) (s t u : State) →
     OkIff res (s.next < id_limit) (s.next, New) → IfErr res (λ f. f ≡ IdsExhausted) → OnOk res (t ≡ u) → OnErr res (t ≡ s)
     → stands c s ≡ false → (s.next < id_limit → Stores c r s u s.next New) → AnswersStore res c r s t
@@ -77,7 +77,7 @@ pub either_way : {A E P : Type 0} (res : Result A E) → OnOk res P → OnErr re
 either_way (Ok x) ok err = ok
 either_way (Err e) ok err = err
 
--- what a look-up tells
+-- what a look-up shows
 found_parts : (b : Bool) (p q : ℕ × ℕ) → Some p ≡ cond b (Some q) None → (b ≡ true) × (p ≡ q)
 found_parts b p q e = grind arith
 

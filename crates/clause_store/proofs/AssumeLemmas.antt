@@ -140,7 +140,7 @@ assume-skip vs ss c i m less is v same k =
     let turned : true_lits vs (negate m) ≡ true = cc (true_lits-falsity vs m) in
     grind (arith, nat_tests, turned, same k, take_more c i m less, list_any-append (λ l. eqb k (negate l)) (take i c) (m ∷ []))
 
--- a literal that is true already is so by a stored unit
+-- a literal that is true already is true by a stored unit
 pub assume-met : (vs : List (Option UnitClause)) (ss : List (Option StoredUnit)) (c : List ℕ) (i m : ℕ) → i < length c → m ≡ get_or c i m → lit_value vs m ≡ Some true
     → is_tautology c ≡ false → ((k : ℕ) → true_lits vs k ≡ start_set ss (take i c) k) → true ≡ some_true_unit ss c
 assume-met vs ss c i m less is v apart same =

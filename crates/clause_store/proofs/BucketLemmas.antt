@@ -26,7 +26,7 @@ unfolding count_limit
 count_limit-some = omega arith
 
 module _ (buffer c : List ℕ) (cs : List Clause) where
-  -- the clause d with these literals stands at i
+  -- the clause d with these literals is at i
   module _ (i : ℕ) (d : Clause) (w : i < length cs) (here : d ≡ get_or cs i d) (is : is_of buffer c d ≡ true) (a : are_apart (map (stored_of buffer) cs) ≡ true) where
     at : (k : ℕ) → get_or (map (stored_of buffer) cs) k (stored_of buffer d) ≡ stored_of buffer (get_or cs k d)
     at k = get_or-map _ cs k d

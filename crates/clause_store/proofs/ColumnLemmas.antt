@@ -89,7 +89,7 @@ pub unit-write : (vs : List Value) (ss : List Source) (ns : List ℕ) (us : List
 unit-write vs ss ns us i v s n u o h e k id is =
     cc (units_by-set vs ss ns i v s n h, unit_by-known v u.value u.id k)
 
--- a value is written, and the id stays that stands there
+-- a value is written, and the id stays that is there
 pub units_by-given : (vs : List Value) (ss : List Source) (ns : List ℕ) (i : ℕ) (v : Value) (b : Bool) → AreEven vs ss ns → i < length vs →
     known v ≡ Some b → (u : UnitClause) × (u.value ≡ b) × (units_by (set vs i v) ss ns ≡ set (units_by vs ss ns) i (Some u))
 units_by-given (w ∷ vs) (t ∷ ss) (m ∷ ns) zero v b h less k = (record { id = id_by t m; value = b }, refl, cc (unit_by-known v b (id_by t m) k))

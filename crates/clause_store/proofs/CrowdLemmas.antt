@@ -13,7 +13,7 @@ use Rattle.clause_store.specs.Rup.{Walks, lits_in, true_lits}
 use Rattle.clause_store.specs.Trace.{Lists, ids_after}
 use Rattle.clause_store.specs.View.{stored_of}
 
--- how many clauses stand before a place
+-- how many clauses come before a place
 abbrev pub rank : List (Option Clause) → ℕ → ℕ
 rank [] i = 0
 rank (p ∷ ps) zero = 0
@@ -41,7 +41,7 @@ place-is ps i q p less is = get_or_default ps i None q less ∙ is
 pub place-here : (ps : List (Option Clause)) (i : ℕ) (q p : Option Clause) → i < length ps → get_or ps i q ≡ p → p ≡ get_or ps i p
 place-here ps i q p less is = sym (get_or_default ps i p q less ∙ is)
 
--- the clause d stands in the place i
+-- the clause d is in the place i
 module _ (d : Clause) where
   pub stands-within : (ps : List (Option Clause)) (i : ℕ) → i < length ps → get_or ps i None ≡ Some d → rank ps i < length (standing ps)
   stands-within [] i w h = absurd (omega arith)
@@ -75,7 +75,7 @@ module _ (d : Clause) where
   left-counts (p ∷ ps) zero w h = grind arith
   left-counts (p ∷ ps) (suc i) w h = grind (arith, left-counts ps i (omega (arith, w)) h)
 
--- places stay as many, and clauses too, with another clause in place of the one that stands there
+-- places stay as many, and clauses too, with another clause in place of the one that is there
 pub placed-counts : (buffer lits : List ℕ) (ps qs : List (Option Clause)) (i : ℕ) (d e : Clause) → IsPlaced buffer lits ps i d → qs ≡ ps →
     (length (set qs i (Some e)) ≡ length qs) × (length (standing (set qs i (Some e))) ≡ length (standing qs))
 placed-counts buffer lits ps qs i d e p same = rw same (length-set ps i (Some e), set-counts d e ps i p.within p.here)
@@ -113,7 +113,7 @@ module _ (s : ℕ → Bool) (c : List ℕ) (cs : List (List ℕ)) where
   walk-stops h = grind arith
 
 module _ (buffer : List ℕ) (ps : List (Option Clause)) (i : ℕ) (q : Option Clause) (less : i < length ps) where
-  -- a clause stands in the place
+  -- a clause is in the place
   module _ (d : Clause) (is : get_or ps i q ≡ Some d) where
     pub place-first : standing (drop i ps) ≡ d ∷ standing (drop (i + 1) ps)
     place-first = standing-drop ps i (Some d) less (place-here ps i q (Some d) less is)

@@ -1,4 +1,4 @@
--- The store after a copy of a clause was taken away, and what deleting answers.
+-- The store after a copy of a clause was removed, and what deleting answers.
 use Rattle.std.proofs.Common.{◌≡◌, ℕ, ◌+◌, ◌-◌, ◌<◌, Bool, true, false, cond, not, ◌&&◌, eqb, List, [], ◌∷◌, length, get_or, map, refl, ◌∙◌, arith, ⊎_elim, ◌*◌, ◌≤◌}
 use Rattle.std.specs.List.{filter, list_all}
 use Rattle.std.proofs.lemmas.Bool.{and_parts, not-true, cases_Bool}
@@ -68,7 +68,7 @@ module _ (w : List ℕ → ℕ) (r : Bool) (c : List ℕ) (e : Stored) (es : Lis
   loses_weight-later : LosesWeight w r c es → same_list e.lits c ≡ false → LosesWeight w r c (e ∷ es)
   loses_weight-later rest other = grind (arith, lower-other r c e other)
 
--- a clause that goes takes its weight away
+-- a clause that is removed removes its weight
 weight_of-lower : (w : List ℕ → ℕ) (r : Bool) (c : List ℕ) (es : List Stored) → are_apart es ≡ true → list_all is_whole es ≡ true → is_stored c es ≡ true →
     LosesWeight w r c es
 weight_of-lower w r c [] a full h = cc
@@ -81,7 +81,7 @@ live-weight : (es : List Stored) → live_literals es ≡ weight_of live_of es
 live-weight [] = refl
 live-weight (e ∷ es) = cc (live-weight es)
 
--- the literals of a clause that goes are no longer live
+-- the literals of a clause that is removed are no longer live
 pub live_literals-lower : (r : Bool) (c : List ℕ) (es : List Stored) → are_apart es ≡ true → list_all is_whole es ≡ true → is_stored c es ≡ true
     → live_literals es ≡ live_literals (remaining (map (lower r c) es)) + cond (is_last r (count_of false c es) (count_of true c es)) (live_of c) 0
 live_literals-lower r c es a full h =
@@ -104,7 +104,7 @@ module _ (counts : List ℕ) (n : ℕ) (r : Bool) (c : List ℕ) (es : List Stor
   held-stored last l here =
       grind (arith, times_held-lower l r c es apart full stored, a.held l)
 
-  -- the last copy goes
+  -- the last copy is removed
   pub counts-lowered : (counts' : List ℕ) → is_last r (count_of false c es) (count_of true c es) ≡ true → HoldOneMore c counts' counts →
       length counts' ≡ length counts → AreCounts counts' n (remaining (map (lower r c) es))
   counts-lowered counts' last less same = record {
@@ -207,7 +207,7 @@ pub store-rest : (h : ClauseHasher) (cs cs' : Clauses) (es : List Stored) → Is
 store-rest h cs cs' es f garbage rest counts s = is_store-by h cs' es f garbage (rw rest.units s.units) counts
 
 module _ (h : ClauseHasher) (cs : Clauses) where
-  -- nothing goes
+  -- nothing is removed
   pub state-unchanged : (st : CheckerState) (known : List Known) (cs' : Clauses) → IsIndexed h cs' (stored_list cs) →
       cs' ≡ record cs { buckets = cs'.buckets } → state_of st h cs' known ≡ state_of st h cs known
   state-unchanged st known cs' f e = state_of-rest st h cs cs' _ _ (rest_of-buckets cs cs' e) (stored_list-is h cs' _ f)
@@ -217,7 +217,7 @@ module _ (h : ClauseHasher) (cs : Clauses) where
       store-rest h cs cs' _ f (rw e s.garbage) (rest_of-buckets cs cs' e)
       (rw e s.counts) s
 
-  -- a copy goes, and then the garbage
+  -- a copy is removed, and then the garbage
   pub deletes : (r : Bool) (c : List ℕ) → is_short c ≡ false →
       (st : CheckerState) (known : List Known) (taken after : Clauses) (left : Left) → IsLeft r c (stored_list cs) left →
       IsIndexed h taken (remaining (map (lower r c) (stored_list cs))) → KeepsRest cs taken → IsIndexed h after (stored_list taken) →

@@ -32,14 +32,14 @@ module _ (c : List ℕ) where
   pub found_in-absent : (es : List Stored) → is_stored c es ≡ false → found_in c es ≡ None
   found_in-absent es h = cc
 
-  -- the clause e stands at i, and none of these literals before it
+  -- the clause e is at i, and none of these literals before it
   module _ (e : Stored) (same : same_list e.lits c ≡ true) where
     pub is_stored-at : (es : List Stored) (i : ℕ) → i < length es → e ≡ get_or es i e → is_stored c es ≡ true
     is_stored-at [] i w h = absurd (omega arith)
     is_stored-at (x ∷ es) zero w h = cc
     is_stored-at (x ∷ es) (suc i) w h = grind (arith, is_stored-at es i (omega (arith, w)) h)
 
-    -- of clauses that are apart none stands before it
+    -- of clauses that are apart none comes before it
     pub before-at : (es : List Stored) (i : ℕ) → i < length es → e ≡ get_or es i e → are_apart es ≡ true → (k : ℕ) → k < i → same_list (get_or es k e).lits c ≡ false
     before-at [] i w h a k l = absurd (omega arith)
     before-at (x ∷ es) zero w h a k l = absurd (omega arith)

@@ -130,7 +130,7 @@ module _ (buffer : List ℕ) (m : Buckets) where
   pub found_all : IsUnique nat_eq m → All (λ e. get nat_eq m e.0 ≡ Some e.1) m.entries
   found_all unique i d l = hash_map_get_place nat_eq_equiv m i _ _ unique (slice_get-get_or m.entries i d l)
 
-  -- they lie in the buffer
+  -- they are in the buffer
   entries_within : AreWithin buffer m → (es : List (ℕ × Bucket)) → All (λ e. get nat_eq m e.0 ≡ Some e.1) es → All (λ c. IsWithin c.lits buffer) (flat_map clauses_of (values_of es))
   entries_within within [] found = All-nil (λ c. IsWithin c.lits buffer)
   entries_within within (e ∷ es) found =
@@ -177,7 +177,7 @@ module _ (h : ClauseHasher) (cs : Clauses) (es : List Stored) (f : IsIndexed h c
       ids-same [] = refl
       ids-same (x ∷ xs) = cc (ids-same xs)
 
-  -- they lie in the buffer
+  -- they are in the buffer
   pub walked_within : All (λ c. IsWithin c.lits cs.literal_buffer.items) (flat_map clauses_of (values cs.buckets))
   walked_within = all_within cs.literal_buffer.items cs.buckets unique f.within
 

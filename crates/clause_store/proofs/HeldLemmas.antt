@@ -22,14 +22,14 @@ known_from-count counts l held = ⊎_elim (λ less. less) (λ more. absurd (let 
 pub item_is : (c : List ℕ) (i l : ℕ) → i < length c → l ≡ get_or c i l → l ≡ get_or c i 0
 item_is c i l less e = e ∙ get_or_default c i l 0 less
 
--- no literal of a canonical list stands before itself
+-- no literal of a canonical list is before itself
 pub has-before : (c : List ℕ) (i : ℕ) → i < length c → is_canonical c ≡ true → has (get_or c i 0) (take i c) ≡ false
 has-before [] i less h = absurd (omega arith)
 has-before (x ∷ xs) zero less h = refl
 has-before (x ∷ xs) (suc i) less h =
     let later : i < length xs = omega arith in grind (arith, nat_tests, list_all_at (ltb x) xs i 0 later, has-before xs i later)
 
--- a literal of a list lies below twice the bound of its variables
+-- a literal of a list is below twice the bound of its variables
 pub below-bound : (c : List ℕ) (i : ℕ) → i < length c → get_or c i 0 < 2 * var_bound c
 below-bound [] i less = absurd (omega arith)
 below-bound (x ∷ xs) zero less = omega arith

@@ -27,7 +27,7 @@ lengthens_then_longer x y z n m k h longer = record {
   still = λ e. absurd (omega arith);
 }
 
--- what was idle before a walk is so after it, or the trail grew
+-- what was idle before a walk is idle after it, or the trail grew
 pub are_idle-walked : (us vs : List (Option UnitClause)) (run now : Propagation) (buffer : List ℕ) (b : Buckets) → LengthensRun us run vs now →
     now.idle ≡ run.idle →
     AreIdle (idle_at run.idle) (length run.trail.items) (λ h. IsIdleRun run.trace.items us (stored_in buffer b h)) →

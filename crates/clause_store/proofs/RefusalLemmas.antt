@@ -1,4 +1,4 @@
--- Refusals, and what follows for the parts of a checker.
+-- Rejections, and what follows for the parts of a checker.
 use Rattle.std.specs.Result.{OnErr, OnOk}
 use Rattle.std.proofs.Common.{◌≡◌, List, None, Some, Result, Ok, Err}
 use Rattle.checker_rules.specs.Outcome.{Cause, Outcome, refuse}
@@ -17,7 +17,7 @@ use Rattle.clause_store.specs.StateOf.{state_of}
 use Rattle.clause_store.specs.Store.{IsStore}
 use Rattle.checker_rules.proofs.StepForms.{steps_keep_form}
 
--- a refusal answers an outcome that refuses with its cause
+-- a rejection answers an outcome that rejects with its cause
 pub answers-refuse : (cause : Cause) (o : Outcome) (s t : State) → o ≡ refuse cause s → t ≡ s → (o.refused ≡ Some cause) × (t ≡ o.after)
 answers-refuse cause o s t is same = (cc, cc)
 
@@ -28,7 +28,7 @@ answers-unless-memory (Ok done) o s h e = h
 answers-unless-memory (Err (Refused cause)) o s h e = absurd cc
 answers-unless-memory (Err other) o s h e = tt
 
--- the refusal of a part is that of the whole
+-- the rejection of a part is that of the whole
 pub answers-part : (e : StepFault) (o p : Outcome) (s : State) → ((cause : Cause) → o.refused ≡ Some cause → p ≡ refuse cause o.after) →
     AnswersOutcome {A = Unit {0}} (Err e) o s → AnswersOutcome {A = Unit {0}} (Err e) p s
 answers-part (Refused cause) o p s f h = let e = f _ h.0 in (cc (e), cc (e))

@@ -1,4 +1,4 @@
--- What a traced check lists: the look at a clause, the stored units that are listed and overwritten, and how the trace goes on.
+-- What a traced check lists: the look at a clause, the stored units that are listed and overwritten, and how the trace continues.
 use Rattle.std.proofs.Common.{◌≡◌, ℕ, Bool, true, false, not, eqb, List, [], ◌∷◌, ◌++◌, Option, Some, refl, arith, zero, suc, ◌<◌, ◌&&◌, length, set, None, ap, ◌∙◌}
 use Rattle.std.proofs.Common.{sym, subst}
 use Rattle.std.specs.List.{list_any}
@@ -34,7 +34,7 @@ visit-listed us s g m c h n k = rw (h, n, k) refl
 pub visit-free : (us : List (Option StoredUnit)) (s g : ℕ → Bool) (m : ℕ) (c : List ℕ) → s m ≡ false → s (negate m) ≡ false → visit us s g (m ∷ c) ≡ freeing m (visit us s g c)
 visit-free us s g m c h n = rw (h, n) refl
 
--- a true literal is met where there is one
+-- a true literal is found where there is one
 pub visit-satisfied : (us : List (Option StoredUnit)) (s g : ℕ → Bool) (c : List ℕ) → (visit us s g c).satisfied ≡ list_any s c
 visit-satisfied us s g [] = refl
 visit-satisfied us s g (m ∷ c) = grind (arith, visit-satisfied us s g c, visit-satisfied us s (without_lit (negate m) g) c)
@@ -72,7 +72,7 @@ trace-agree us vs s g (e ∷ es) h =
           (λ r. trace-agree us vs r (visit vs s g e.lits).unlisted es (λ k y. h k (visit-unlisted vs s g e.lits k y))),
     )
 
--- how the trace goes on after a clause, by what follows from it
+-- how the trace continues after a clause, by what follows from it
 abbrev pub on_status : ClauseStatus → Visit → Item → (ℕ → Bool) → ((ℕ → Bool) → (ℕ → Bool) → Option (List Item)) → Option (List Item)
 on_status statuses.Falsified v x s go = Some (v.items ++ x ∷ [])
 on_status (statuses.Unit l) v x s go = prepend (v.items ++ x ∷ []) (go (add_lit l s) v.unlisted)
@@ -153,7 +153,7 @@ true_unit_id-false us m c h = rw h refl
 with_ids : List ℕ → Option (List Item) → Option (List ℕ)
 with_ids ids o = option_map (λ items. ids ++ item_ids items) o
 
--- what stands before a trace is listed first
+-- what comes before a trace is listed first
 with_ids-prepend : (ids : List ℕ) (xs : List Item) (o : Option (List Item)) → with_ids ids (prepend xs o) ≡ with_ids (ids ++ item_ids xs) o
 unfolding with_ids
 with_ids-prepend ids xs o = grind (arith, map-append, append_assoc)
@@ -162,7 +162,7 @@ with_ids-prepend ids xs o = grind (arith, map-append, append_assoc)
 named-last : (ids ids_now : List ℕ) (xs : List Item) (x : Item) → ids ++ item_ids xs ≡ ids_now → ids ++ item_ids (xs ++ x ∷ []) ≡ ids_now ++ x.id ∷ []
 named-last ids ids_now xs x e = cc (map-append (λ (y : Item). y.id) xs (x ∷ []), append_assoc ids (item_ids xs) (x.id ∷ []))
 
--- the trace goes on from other values with the same stored units
+-- the trace continues from other values with the same stored units
 goes_on : (us vs : List (Option UnitClause)) (r h : ℕ → Bool) (rest : List Stored) → KeepsStored us vs → true_lits vs ≡ r →
     unlisted_lits vs ≡ h → trace (stored_units us) r h rest ≡ trace (stored_units vs) (true_lits vs) (unlisted_lits vs) rest
 goes_on us vs r h rest kept e f =

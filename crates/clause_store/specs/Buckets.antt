@@ -29,7 +29,7 @@ bucket_items (Some b) = clauses_of b
 abbrev pub clauses_at : Buckets → ℕ → List Clause
 clauses_at m h = bucket_items (get nat_eq m h)
 
--- the literals of every clause lie in the buffer
+-- the literals of every clause are in the buffer
 abbrev pub AreWithin : List ℕ → Buckets → Type 0
 AreWithin buffer m = (k : ℕ) → All (λ c. IsWithin c.lits buffer) (clauses_at m k)
 

@@ -1,4 +1,4 @@
--- The answer of the check, in the state that the parts stand for.
+-- The answer of the check, in the state that the parts represent.
 use Rattle.std.specs.Prelude.{◌≡◌, ℕ, true, false, List}
 use Rattle.sat_rules.specs.Clauses.{is_tautology}
 use Rattle.checker_rules.specs.Exact.{walk_check}

@@ -8,7 +8,7 @@ use Rattle.clause_store.specs.Lits.{lits_of}
 abbrev pub standing : List (Option Clause) → List Clause
 standing ps = filter_map (λ p. p) ps
 
--- the clause d stands in the place i, and has these literals
+-- the clause d is in the place i, and has these literals
 pub record IsPlaced (buffer lits : List ℕ) (ps : List (Option Clause)) (i : ℕ) (d : Clause) : Type 0
   where
     pub within : i < length ps

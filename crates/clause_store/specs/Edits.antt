@@ -16,7 +16,7 @@ pub record IsRaised (buffer : List ℕ) (hash : ℕ) (redundant : Bool) (c : Lis
   pub within : All (λ d. IsWithin d.lits buffer) (clauses_at m' hash)
   pub others : (k : ℕ) → (k ≡ hash → ⊥) → clauses_at m' k ≡ clauses_at m k
 
--- one more clause stands at the end of the bucket, and its literals in the buffer if there are more than three; an id is taken,
+-- one more clause is at the end of the bucket, and its literals in the buffer if there are more than three; an id is taken,
 -- and its literals are counted
 pub record IsPushed (hash : ℕ) (e : Stored) (cs cs' : Clauses) : Type 0 where
   pub here : stored_at cs' hash ≡ stored_at cs hash ++ e ∷ []

@@ -2,7 +2,7 @@
 --     idle_at x h      the length of the trail at which the bucket of a hash was found idle
 --     IsIdle us cs      a walk over these clauses from these values gives none and falsifies none
 --     IsIdleRun      the same, and it lists nothing
---     AreIdle      what was found idle is so while the trail is no longer
+--     AreIdle      what was found idle is idle while the trail is no longer
 use Rattle.std.specs.Prelude.{◌≡◌, ℕ, ◌≤◌, false, nat_eq, List, Option, Some, length}
 use Rattle.std.specs.HashMap.{get}
 use Rattle.checker_rules.specs.State.{Stored, all_lits}
@@ -31,7 +31,7 @@ pub record IsIdleSince (n now : ℕ) (Idle : Type 0) : Type 0 where
   pub no_later : n ≤ now
   pub idle : n ≡ now → Idle
 
--- each bucket that was found idle is so while the trail has the length that it had then
+-- each bucket that was found idle is idle while the trail has the length that it had then
 abbrev pub AreIdle : (ℕ → Option ℕ) → ℕ → (ℕ → Type 0) → Type 0
 AreIdle found now Idle = (h n : ℕ) → found h ≡ Some n → IsIdleSince n now (Idle h)
 

@@ -15,23 +15,23 @@ buffer_end (Two ls) = 0
 buffer_end (Three ls) = 0
 buffer_end (Long start after_four) = start + (after_four + 4)
 
--- the range lies in the buffer
+-- the range is in the buffer
 abbrev pub IsWithin : ClauseLits → List ℕ → Type 0
 IsWithin c buffer = buffer_end c ≤ length buffer
 
--- how many literals stand in the buffer
+-- how many literals are in the buffer
 abbrev pub buffer_used : ClauseLits → ℕ
 buffer_used (Two ls) = 0
 buffer_used (Three ls) = 0
 buffer_used (Long start after_four) = after_four + 4
 
--- the literals that stand in the buffer
+-- the literals that are in the buffer
 abbrev pub in_buffer : List ℕ → ClauseLits → List ℕ
 in_buffer buffer (Two ls) = []
 in_buffer buffer (Three ls) = []
 in_buffer buffer (Long start after_four) = take (after_four + 4) (drop start buffer)
 
--- the same literals, where those in a buffer stand in another from `at` on
+-- the same literals, where those in a buffer are in another from `at` on
 abbrev pub moved_to : ℕ → ClauseLits → ClauseLits
 moved_to at (Two ls) = Two ls
 moved_to at (Three ls) = Three ls

@@ -1,4 +1,4 @@
--- Copies of clauses taken away.
+-- Copies of clauses removed.
 use Rattle.std.specs.Prelude.{◌≡◌, ℕ, ◌-◌, ◌<◌, ◌&&◌, ◌==◌, Bool, true, false, if◌then◌else◌, List, map, All}
 use Rattle.checker_rules.specs.Buckets.{remaining}
 use Rattle.checker_rules.specs.State.{Stored}
@@ -32,7 +32,7 @@ pub record IsLeft (redundant : Bool) (c : List ℕ) (es : List Stored) (left : L
   pub irredundant : left.irredundant ≡ count_of false c es - (if redundant then 0 else 1)
   pub redundants : left.redundant ≡ count_of true c es - (if redundant then 1 else 0)
 
--- one copy of the clause is taken away in a bucket
+-- one copy of the clause is removed in a bucket
 pub record IsLoweredIn (buffer : List ℕ) (redundant : Bool) (c : List ℕ) (cs cs' : List Clause)
     (left : Left) : Type 0 where
   pub here : map (stored_of buffer) cs' ≡
@@ -49,7 +49,7 @@ pub record IsLowered (buffer : List ℕ) (hash : ℕ) (redundant : Bool) (c : Li
   pub others : (k : ℕ) → (k ≡ hash → ⊥) → clauses_at m' k ≡ clauses_at m k
   pub is_left : IsLeft redundant c (stored_in buffer m hash) left
 
--- why no copy was taken away
+-- why no copy was removed
 abbrev pub IsMissing : Bool → List ℕ → List Stored → Missing → Type 0
 IsMissing redundant c es NoClause = is_stored c es ≡ false
 IsMissing redundant c es NoCopy = (is_stored c es ≡ true) × (count_of redundant c es ≡ 0)

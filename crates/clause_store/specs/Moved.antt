@@ -1,4 +1,4 @@
--- Clauses whose literals move to another buffer, where they stand one after the other.
+-- Clauses whose literals move to another buffer, where they are one after the other.
 use Rattle.std.specs.Prelude.{ℕ, ◌+◌, List, [], ◌∷◌}
 use Rattle.std.specs.List.{flat_map}
 use Rattle.std.specs.HashMap.{values}
@@ -15,7 +15,7 @@ abbrev pub all_used : List Clause → ℕ
 all_used [] = 0
 all_used (c ∷ cs) = buffer_used c.lits + all_used cs
 
--- the clauses, where these literals stand from `at` on
+-- the clauses, where these literals are from `at` on
 abbrev pub all_moved_to : ℕ → List Clause → List Clause
 all_moved_to at [] = []
 all_moved_to at (c ∷ cs) =

@@ -1,4 +1,4 @@
--- Why a step is not taken where the store refuses.
+-- Why a step is not taken where the store rejects.
 use Rattle.std.specs.Prelude.{Bool, if◌then◌else◌}
 use Rattle.checker_parts.specs.declared.error.CheckCause.TheVariants as causes
 use Rattle.checker_parts.specs.declared.error.StepFault.{StepFault}

@@ -43,7 +43,7 @@ abbrev pub answer_or : Option Answer → CheckAnswer → CheckAnswer
 answer_or None rest = rest
 answer_or (Some a) rest = check_answer a
 
--- a walk over buckets of which this is the first ends in it, or goes on from those values
+-- a walk over buckets of which this is the first ends in it, or continues from those values
 abbrev pub WalksFirst : List (Option UnitClause) → List (List ℕ) → List (Option UnitClause) →
     Option Answer → Type 0
 WalksFirst us b vs end = (rest : List (List (List ℕ))) →

@@ -38,7 +38,7 @@ hash_of h c = clause_hash (applied_of h) h.hash_bits c
 abbrev pub pending_of : ClauseHasher → List (ℕ × Option ℕ)
 pending_of h = map indexes h.pending.entries.items
 
--- the state that the parts stand for, with these known variables
+-- the state that the parts represent, with these known variables
 abbrev pub state_of : CheckerState → ClauseHasher → Clauses → List Known → State
 state_of st h cs known = record {
   clauses = stored_list cs;

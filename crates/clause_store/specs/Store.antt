@@ -85,7 +85,7 @@ result_of c redundant s =
     (if is_short c then Duplicate else raised_as redundant (count_of false c s.clauses))
     else New
 
--- the counters where the clause is stored: it takes an id unless it stands
+-- the counters where the clause is stored: it takes an id unless it is stored
 abbrev pub store_counters : List ℕ → Bool → State → Outcome
 store_counters c redundant s = counters redundant c (not (stands c s)) s accept
 

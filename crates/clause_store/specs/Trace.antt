@@ -52,13 +52,13 @@ abbrev pub ids_after : List ℕ → List (Option UnitClause) → List Stored →
 ids_after ids us es = option_map (λ items. ids ++ item_ids items)
     (trace (stored_units us) (true_lits us) (unlisted_lits us) es)
 
--- a walk over clauses meets a falsified one, or goes on with these ids and values, whatever clauses follow
+-- a walk over clauses meets a falsified one, or continues with these ids and values, whatever clauses follow
 abbrev pub Lists : List ℕ → List (Option UnitClause) → List Stored → List ℕ →
     List (Option UnitClause) → Bool → Type 0
 Lists ids us es now vs falsified = (rest : List Stored) →
     ids_after ids us (es ++ rest) ≡ (if falsified then Some now else ids_after now vs rest)
 
--- a walk over buckets, these clauses the first, ends in it with these ids, or goes on with them
+-- a walk over buckets, these clauses the first, ends in it with these ids, or continues with them
 pub record ListsFirst (ids : List ℕ) (us : List (Option UnitClause)) (es : List Stored)
     (now : List ℕ) (vs : List (Option UnitClause)) (end : Option Answer) : Type 0 where
   pub passed : end ≡ Some Passed → Lists ids us es now vs true
@@ -85,7 +85,7 @@ clause_trace us c es =
     if some_true_unit us c then unit_id (unit_of us (var_of (first_true us c))) ∷ []
     else ids_of (open_trace us c es)
 
--- the ids that stand after a check: those of its trace where it was traced and passed
+-- the ids that are left after a check: those of its trace where it was traced and passed
 abbrev pub last_trace : Bool → Answer → List ℕ → List ℕ → List ℕ
 last_trace traced Passed ids old = if traced then ids else old
 last_trace traced NoClauseForHash ids old = old

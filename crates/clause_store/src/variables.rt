@@ -65,7 +65,7 @@ fn are_known(units: &Units, lits: &[Lit]) -> bool
     true
 }
 
-/// Returns how many variables have to be known for the literals.
+/// Returns how many variables must be known for the literals.
 pub fn var_bound(lits: &[Lit]) -> usize
     ensures { result ≡ var_bound lits.now }
 {

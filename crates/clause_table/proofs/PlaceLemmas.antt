@@ -8,9 +8,9 @@ use Rattle.std.proofs.lemmas.List.Sums.{sum_by-append, sum_by-cons, sum_by_push,
 use Rattle.std.proofs.lemmas.Grind.{common_steps, get_or-set_at}
 use Rattle.clause_table.specs.Places.{are_rising, in_use, len_at, lits_at, size_at}
 
--- ---- clauses that stand one after the other
+-- ---- clauses that are one after the other
 
--- the first of several places is none, or its clause stands before those of the others
+-- the first of several places is none, or its clause comes before those of the others
 pub rising-cases : (lits : List ℕ) (low p : ℕ) (ps : List ℕ) → are_rising lits low (p ∷ ps) ≡ true →
     ((p ≡ 0) × (are_rising lits low ps ≡ true)) ⊎ ((low < p) × (are_rising lits (p + len_at lits p) ps ≡ true))
 rising-cases lits low p ps h = grind arith

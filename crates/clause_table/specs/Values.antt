@@ -2,7 +2,7 @@
 --     among t      the set of the literals of a trail
 --     true_by m l      a literal is true by the marks
 --     with_lit l t      the trail with one more literal, unless it has it
---     lits_besides o c      the literals of a clause besides one, or all
+--     lits_besides o c      the literals of a clause except one, or all
 --     IsMarked marks t      the marks are those of the literals of the trail, which has none twice
 --     IsGrown t u      the trail t with more at its end
 use Rattle.std.specs.Prelude.{◌≡◌, ℕ, Bool, true, if◌then◌else◌, List, [], ◌∷◌, ◌++◌, length, take, Option, Some, None}
@@ -24,7 +24,7 @@ true_by m l = has_mark m (negate l)
 abbrev pub with_lit : ℕ → List ℕ → List ℕ
 with_lit l t = if has l t then t else t ++ l ∷ []
 
--- the literals of a clause besides one, or all
+-- the literals of a clause except one, or all
 abbrev pub lits_besides : Option ℕ → List ℕ → List ℕ
 lits_besides None c = c
 lits_besides (Some n) c = without n c

@@ -38,7 +38,7 @@ pub record FoldRows : Type 0 where
   pub recorded : (run new_state (add_clause (pos 1 ∷ []) ∷ add_clause (neg 1 ∷ []) ∷ [])).unsat ≡ true
   pub not_recorded : (run new_state (add_clause (pos 1 ∷ []) ∷ either ∷ [])).unsat ≡ false
   pub recorded_set : sat (run new_state (add_clause [] ∷ [])) first ≡ false
-  -- a refused step is no step of the fold
+  -- a rejected step is no step of the fold
   pub refused : accepted new_state (delete_clause by_simplified (pos 1 ∷ pos 2 ∷ []) ∷ either ∷ [])
       ≡ either ∷ []
   -- a literal of the model, or a unit, is false

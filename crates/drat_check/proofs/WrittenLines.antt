@@ -52,7 +52,7 @@ lines_in-none Binary last = refl
 
 -- ---- steps of lines
 
--- a run goes on after its first line, which is accepted
+-- a run continues after its first line, which is accepted
 run-rest : (b : Bool) (st su : List Item) (y : Line) (xs : List Line) → then_run (if b then Some (after st y) else None) (λ s. run s xs) ≡ Some su →
     run (after st y) xs ≡ Some su
 run-rest b st su y xs e = grind arith
@@ -79,7 +79,7 @@ steps_text-more begun st su (y ∷ xs) x ran =
       append_assoc (step_text begun st y) (steps_text next (after st y) xs) (step_text (begun_of next xs) su x),
     )
 
--- steps that are made where they are wanted are appended
+-- steps that are made where they are asked for are appended
 pub appends_wanted : {L : Type 0} (contents : L → Known) (trim trim' : Option L) (text steps : List ℕ) → IfWanted trim (text ≡ steps) →
     Appends (bytes_in contents trim) (bytes_in contents trim') text → Appends (bytes_in contents trim) (bytes_in contents trim') steps
 appends_wanted contents None trim' text steps is_made p = tt
@@ -199,7 +199,7 @@ began_none {form} {formula} {lrat} {trim} = record {
   trimmed = begins_nothing trim [];
 }
 
--- what is so in any case
+-- what holds in any case
 pub on_ok : {A E : Type 0} (P : Type 0) (r : Result A E) → P → OnOk r P
 on_ok P (Ok x) p = p
 on_ok P (Err e) p = tt
@@ -208,7 +208,7 @@ pub on_err : {A E : Type 0} (P : Type 0) (r : Result A E) → P → OnErr r P
 on_err P (Ok x) p = tt
 on_err P (Err e) p = p
 
--- a refusal before a line was made
+-- a rejection before a line was made
 pub refused : {L C : Type 0} (formula : List (List ℕ)) (lrat : L → Known) (core : C → Known) (s : Outputs L C) (fault : ProofFault) →
     WritesBefore formula lrat core s s (Err (Proof fault))
 refused formula lrat core s fault = (began_none, refl)

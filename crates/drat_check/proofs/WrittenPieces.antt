@@ -1,4 +1,4 @@
--- Lines of a piece of a proof that are accepted and written, without their steps, and what a verdict on the piece stands on.
+-- Lines of a piece of a proof that are accepted and written, without their steps, and what a verdict on the piece relies on.
 use Rattle.std.proofs.Common.{◌≡◌, ℕ, List, [], ◌∷◌, ◌++◌, length, Option, None, Result, Ok, Err, false, refl, sym, ap, ◌∙◌, subst, inl}
 use Rattle.std.specs.Prelude.{IfOk}
 use Rattle.std.specs.Option.{option_map}
@@ -36,7 +36,7 @@ Known = Option (List ℕ)
 
 -- ---- lines without steps
 
--- what stands of the writer of steps says nothing where there was none
+-- what is left of the writer of steps says nothing where there was none
 pub without_steps : {form : LineForm} {formula : List (List ℕ)} {lrat lrat' trim' : Known} {checker : LratChecker} →
     HasWritten form formula lrat lrat' None trim' checker → HasWritten form formula lrat lrat' None None checker
 without_steps p = search
@@ -50,7 +50,7 @@ module _ {form : LineForm} {formula : List (List ℕ)} {lrat lrat' : Known} {che
   abbrev added : Line
   added = adds id c hints
 
-  -- an addition is written alike behind any lines
+  -- an addition is written alike after any lines
   with_addition : lines_in form (length formula) p.lines ++ lines_in form last (added ∷ []) ≡ lines_in form (length formula) (p.lines ++ added ∷ [])
   with_addition = ap (λ (l : List ℕ). lines_in form (length formula) p.lines ++ l) (alike form) ∙ sym (lines_in-more form (length formula) p.lines added)
     where
@@ -73,7 +73,7 @@ module _ {form : LineForm} {formula : List (List ℕ)} {lrat lrat' : Known} {che
 
 -- ---- verdicts
 
--- the ids name the wanted clauses in what the checker holds
+-- the ids name the target clauses in what the checker holds
 pub wrote_piece : {form : LineForm} {formula wanted : List (List ℕ)} {lrat lrat' lrat'' : Known} {checker : LratChecker} (p : HasWritten form formula lrat lrat' None None checker)
     (ids : List ℕ) → NamedBy (find p.ready.accepted.store) ids wanted → Keeps lrat' lrat'' → WrotePiece form formula wanted lrat lrat''
 wrote_piece {form} {formula} {lrat = lrat} {lrat'} {lrat''} p ids named kept = record {
@@ -139,7 +139,7 @@ module _ (cnf holds : Known) (formula wanted : List (List ℕ)) (whole : IsOutco
       WritesPieceCore cnf holds core core' old new r
   read_core core core' old new r p = inl (both (λ formula wanted. WritesCore formula wanted core core' old new r) p)
 
--- what is told of both headers, once both formulas were read
+-- what is reported of both headers, once both formulas were read
 pub read_lies : (cnf holds : Known) (formula wanted : List (List ℕ)) (before lie other : Option LyingHeader) (r : Result PieceVerdict PieceFault) →
     IsLie cnf lie → IsLie holds other → IsReadPieceRun formula wanted r → TellsPieceLies cnf holds before r lie other
 read_lies cnf holds formula wanted before lie other (Err (Run (Formula fault))) p q read = absurd read

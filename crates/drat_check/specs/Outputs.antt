@@ -113,7 +113,7 @@ module _ {L C : Type 0} (formula : List (List ℕ)) (lrat : L → Option (List �
       (bytes_in lrat s.trim) (bytes_in lrat s'.trim)
       × (s'.core ≡ s.core)
 
-  -- what the verdict stands on was written, where it says anything
+  -- what the verdict relies on was written, if it says anything
   abbrev pub WritesFor : Verdict → Type 0
   WritesFor Verified = AllWritten
   WritesFor NotVerified = s' ≡ s
@@ -131,7 +131,7 @@ module _ {L C : Type 0} (formula : List (List ℕ)) (lrat : L → Option (List �
       × BeganCore formula (bytes_in core s.core) (bytes_in core s'.core)
   WritesBefore (Err (Write cause)) = ⊥
 
-  -- one verdict stood, which says no more than is so: what it stands on was written, and a beginning of its line
+  -- there was a true verdict: what it relies on was written, and a beginning of its line
   pub record LeftUnwritten (old new : Option (List ℕ)) : Type 0 where
     pub verdict : Verdict
     pub shown : IsShown formula verdict

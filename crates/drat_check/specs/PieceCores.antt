@@ -1,4 +1,4 @@
--- The core of a piece of a proof: clauses of the formula that are written as a formula, and of which alone the verdict is so.
+-- The core of a piece of a proof: clauses of the formula that are written as a formula, and for which alone the verdict holds.
 --     WroteShown formula wanted core core' verdict      a part of the formula was written that shows what the verdict says
 --     CoreShown, WritesCore, WritesPieceCore      what a run wrote of a core: by its verdict, after two formulas, and after their texts
 use Rattle.std.specs.Prelude.{◌≡◌, ◌⊎◌, ℕ, List, Option, Result, Ok, Err}
@@ -16,7 +16,7 @@ use Rattle.drat_check.specs.Outputs.{BeganCore, IsPartOf}
 use Rattle.drat_check.specs.Pieces.{IsUnreadPiece}
 
 module _ (formula wanted : List (List ℕ)) (core core' : Option (List ℕ)) where
-  -- a part of the formula was written as a formula, and what the verdict says is so of it in place of the formula
+  -- a part of the formula was written as a formula, and what the verdict says holds for it in place of the formula
   pub record WroteShown (verdict : PieceVerdict) : Type 0 where
     pub used : List (List ℕ)
     pub is_part : IsPartOf used formula

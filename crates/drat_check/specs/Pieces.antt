@@ -1,11 +1,11 @@
--- Runs over one piece of a proof, after a formula and the clauses that are wanted behind the piece.
+-- Runs over one piece of a proof, after a formula and the target clauses of the piece.
 --     IsReadPieceRun, IsPieceRun      the run after two formulas, and after their texts
 --     IsEarlyPiece r, IsSilentPiece r      no fault of a formula or of the verdict's line;  no line of a verdict was begun
 --     IsUnreadPiece r      a formula was not read whole
 --     GoesOn      a call writes more lines that a checker has accepted
---     WrotePiece      lines were written after which the wanted clauses are stored
+--     WrotePiece      lines were written after which the target clauses are stored
 --     WritesShown, WritesEarly, WritesRead, WritesPiece      the lines that a run wrote: by its verdict, before its line, after two formulas, and after their texts
---     TellsPieceLies      what is told of both headers
+--     TellsPieceLies      what is reported of both headers
 use Rattle.std.specs.Prelude.{◌≡◌, ℕ, List, length, Option, Some, None, Result, Ok, Err}
 use Rattle.std.specs.Option.{option_map}
 use Rattle.std.specs.Io.KnownBytes.{Appends}
@@ -30,7 +30,7 @@ use Rattle.drat_check.specs.declared.piece_fault.PieceFault.TheVariants.{Run, Wa
 use Rattle.drat_check.specs.Outputs.{BeganLines, HasWritten, WroteProof}
 use Rattle.drat_check.specs.Runs.{IsCheckRun, IsEarly, IsProofRun, IsSilent}
 
--- the verdict says no more than is so; the formulas were there
+-- the verdict is true; the formulas were there
 abbrev pub IsReadPieceRun : List (List ℕ) → List (List ℕ) → Result PieceVerdict PieceFault → Type 0
 IsReadPieceRun formula wanted (Ok verdict) = IsPieceShown formula wanted verdict
 IsReadPieceRun formula wanted (Err (Run fault)) = IsProofRun formula (Err fault)
@@ -59,7 +59,7 @@ IsSilentPiece (Err (Run fault)) = IsSilent (Err fault)
 IsSilentPiece (Err (Wanted fault)) = Unit {0}
 IsSilentPiece (Err Lost) = Unit {0}
 
--- the formula or the wanted clauses were not read whole
+-- the formula or the target clauses were not read whole
 abbrev pub IsUnreadPiece : Result PieceVerdict PieceFault → Type 0
 IsUnreadPiece (Ok verdict) = ⊥
 IsUnreadPiece (Err (Run (Formula fault))) = Unit {0}
@@ -73,7 +73,7 @@ IsUnreadPiece (Err Lost) = ⊥
 
 -- ---- the lines that are written
 
--- where lines that a checker has accepted stand written before a call, they do after it, with those that it added; after a fault a beginning of accepted lines does
+-- where lines that a checker has accepted are written before a call, they are after it, with those that it added; after a fault a beginning of accepted lines is
 abbrev pub GoesOn : {A : Type 0} → LineForm → Option (List ℕ) → Option (List ℕ) →
     LratChecker → LratChecker → Result A PieceFault → Type 0
 GoesOn form lrat lrat' checker next (Ok x) = (formula : List (List ℕ)) (before : Option (List ℕ))
@@ -83,7 +83,7 @@ GoesOn form lrat lrat' checker next (Err fault) = (formula : List (List ℕ)) (b
     → HasWritten form formula before lrat None None checker
     → BeganLines form formula before lrat' None None
 
--- lines that the checker's rules accept were written, and after them each wanted clause is stored under an id
+-- lines that the checker's rules accept were written, and after them each target clause is stored under an id
 pub record WrotePiece (form : LineForm) (formula wanted : List (List ℕ)) (lrat lrat' : Option (List ℕ)) : Type 0 where
   pub lines : List Line
   pub store : List Item
@@ -93,7 +93,7 @@ pub record WrotePiece (form : LineForm) (formula wanted : List (List ℕ)) (lrat
   pub text : Appends lrat lrat' (lines_in form (length formula) lines)
 
 module _ (form : LineForm) (formula wanted : List (List ℕ)) (lrat lrat' : Option (List ℕ)) where
-  -- what the verdict stands on was written, where it says anything
+  -- what the verdict relies on was written, if it says anything
   abbrev pub WritesShown : PieceVerdict → Type 0
   WritesShown Refuted = WroteProof form formula lrat lrat' None None
   WritesShown Carried = WrotePiece form formula wanted lrat lrat'
@@ -104,7 +104,7 @@ module _ (form : LineForm) (formula wanted : List (List ℕ)) (lrat lrat' : Opti
   WritesEarly (Ok verdict) = WritesShown verdict
   WritesEarly (Err fault) = BeganLines form formula lrat lrat' None None
 
-  -- one verdict stood, which says no more than is so: what it stands on was written, and a beginning of its line
+  -- there was a true verdict: what it relies on was written, and a beginning of its line
   pub record LeftPiece (old new : Option (List ℕ)) : Type 0 where
     pub verdict : PieceVerdict
     pub shown : IsPieceShown formula wanted verdict
@@ -145,7 +145,7 @@ WritesPiece form cnf holds lrat lrat' old new (Err (Run (Write cause))) = OfForm
 
 -- ---- headers
 
--- what both headers lie about, of each where the formula was read whole; else nothing. Where the first one is not, what was told before of the other stays
+-- the mismatches of both headers, of each if the formula was read whole; else nothing. If the first one is not, what was reported before of the other stays
 abbrev pub TellsPieceLies : Option (List ℕ) → Option (List ℕ) → Option LyingHeader
     → Result PieceVerdict PieceFault → Option LyingHeader → Option LyingHeader → Type 0
 TellsPieceLies cnf holds before (Ok verdict) lie other = IsLie cnf lie × IsLie holds other

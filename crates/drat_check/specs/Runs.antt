@@ -1,9 +1,9 @@
 -- Runs of a DRAT or FRAT proof after a formula.
---     IsShown formula verdict      a verdict that says no more than is so
+--     IsShown formula verdict      a verdict that is true
 --     IsProofRun, IsCheckRun      the run of a proof after a formula, and after a formula's text
 --     IsEarly r, IsSilent r      the verdict's line did not fail;  no line of a verdict was begun
 --     HasNoFormula r      the text was not read whole as a formula
---     RunTellsLie cnf r told      this is told of the formula's header
+--     RunTellsLie cnf r told      this is reported of the formula's header
 use Rattle.std.specs.Prelude.{◌≡◌, ℕ, List, Option, None, Result, Ok, Err}
 use Rattle.std.specs.Option.{option_map}
 use Rattle.sat_formula.specs.declared.counts.LyingHeader.{LyingHeader}
@@ -21,7 +21,7 @@ abbrev pub IsShown : List (List ℕ) → Verdict → Type 0
 IsShown formula Verified = IsUnsatisfiable formula
 IsShown formula NotVerified = Unit {0}
 
--- the verdict says no more than is so; the formula was there
+-- the verdict is true; the formula was there
 abbrev pub IsProofRun : List (List ℕ) → Result Verdict RunFault → Type 0
 IsProofRun formula (Ok verdict) = IsShown formula verdict
 IsProofRun formula (Err (Formula fault)) = ⊥
@@ -72,7 +72,7 @@ HasNoFormula (Err (Trim cause)) = ⊥
 HasNoFormula (Err (Core cause)) = ⊥
 HasNoFormula (Err (Write cause)) = ⊥
 
--- what the header lies about, where the formula was read whole; else nothing
+-- the mismatch of the header, if the formula was read whole; else nothing
 abbrev pub RunTellsLie : Option (List ℕ) → Result Verdict RunFault → Option LyingHeader → Type 0
 RunTellsLie cnf (Ok verdict) told = IsLie cnf told
 RunTellsLie cnf (Err (Formula fault)) told = told ≡ None

@@ -92,6 +92,10 @@ impl Cutter {
     }
 
     /// Adds a clause of the formula, before the first step of the proof is read.
+    ///
+    /// # Errors
+    ///
+    /// `OutOfMemory`, or `TooMany` if more clauses are live than 32 bits number.
     pub fn add_formula_clause(&mut self, clause: &[Lit]) -> Result<(), CutFault> {
         self.read_clause(clause)?;
         if self.read.is_tautology {
@@ -102,6 +106,10 @@ impl Cutter {
     }
 
     /// Reads a step of the proof. The live clauses do not change before `take`.
+    ///
+    /// # Errors
+    ///
+    /// As for `add_formula_clause`.
     pub fn read(&mut self, step: DratStep<'_>) -> Result<(), CutFault> {
         if !self.has_begun {
             self.has_begun = true;
@@ -120,6 +128,10 @@ impl Cutter {
     }
 
     /// Applies the step that was read, once, and returns its effect.
+    ///
+    /// # Errors
+    ///
+    /// As for `add_formula_clause`.
     pub fn take(&mut self) -> Result<Taken, CutFault> {
         let awaited = mem::replace(&mut self.awaited, Awaited::Nothing);
         match awaited {

@@ -66,6 +66,10 @@ impl Elaborator {
 
     /// Completes the formula and propagates its unit clauses. The first step of the proof does this
     /// by itself, and a second call does nothing.
+    ///
+    /// # Errors
+    ///
+    /// `OutOfMemory`, or `TooLong` for more clauses, literals or steps than 32 bits count.
     pub fn begin_proof(&mut self) -> Result<(), ElaborateFault> {
         if self.phase != Phase::Formula {
             return Ok(());
@@ -76,6 +80,10 @@ impl Elaborator {
 
     /// Adds a clause of the proof, which should follow or be RAT on its first literal. It is not
     /// checked yet. After a conflict it is ignored.
+    ///
+    /// # Errors
+    ///
+    /// As for `begin_proof`.
     pub fn add_lemma(&mut self, lits: &[Lit]) -> Result<(), ElaborateFault> {
         self.begin_proof()?;
         if self.is_refuted() {
@@ -86,6 +94,10 @@ impl Elaborator {
 
     /// Deletes a clause with these literals, in any order. If there is none, or each such clause is
     /// the reason of a literal, the step is counted and ignored; after a conflict it is ignored.
+    ///
+    /// # Errors
+    ///
+    /// As for `begin_proof`.
     pub fn delete_clause(&mut self, lits: &[Lit]) -> Result<(), ElaborateFault> {
         self.begin_proof()?;
         if self.is_refuted() {
@@ -109,6 +121,10 @@ impl Elaborator {
     /// Makes a clause a target after the last step. Returns whether a clause with just these
     /// literals, in any order, is live. After a conflict, and once the backward pass has begun, it
     /// returns `false`.
+    ///
+    /// # Errors
+    ///
+    /// As for `begin_proof`.
     pub fn want(&mut self, lits: &[Lit]) -> Result<bool, ElaborateFault> {
         self.begin_proof()?;
         if self.phase != Phase::Proof || self.is_refuted() {

@@ -6,6 +6,7 @@ use std::alloc::Global;
 use std::process::Abort;
 use test_streams::{Pieces, Shown};
 
+/// The format in which a proof is read.
 #[derive(Clone, Copy)]
 pub enum Format {
     Drat,
@@ -47,6 +48,7 @@ fn is_shown(rt: &impl Abort, alloc: Global, format: Format, proof: Pieces<'_>, e
     assert_eq!(rt; shown.text(), expected, "{proof:?}");
 }
 
+/// Each proof gives its steps, however it is cut into reads.
 pub fn hold(rt: &impl Abort, alloc: Global, format: Format, rows: &[Row]) {
     for (bytes, expected) in rows {
         for size in [1, 2, 3, 100] {

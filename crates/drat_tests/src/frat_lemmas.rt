@@ -10,6 +10,7 @@ const TWO_WAYS: &str = "1 2 0 1 -2 0 1 3 0 1 -3 0 -1 4 5 0 -1 4 -5 0 -1 -4 5 0 -
 const BY_OTHERS: &str = "d 1 2; 9 1 0 3 4; d 4 3; 10 4 0 9 6 5; d 5 6; 11 0 9 10 8 7; \
      used 3 4 5 6 7 8; 0 missing, 0 kept";
 
+/// Lemmas of FRAT proofs, with and without hints.
 pub static ROWS: [Row; 7] = [
     // By the hints, where they come to a conflict.
     (

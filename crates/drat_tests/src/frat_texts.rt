@@ -41,7 +41,7 @@ fn show_step(shown: &mut Shown, step: FratStep<'_>) {
     }
 }
 
-/// Shows a step, or the text of a fault. False: it is the end.
+/// Appends a step, or the text of a fault. Returns `false` at the end.
 pub fn show(shown: &mut Shown, answer: Result<Option<FratStep<'_>>, DratFault>) -> bool {
     match answer {
         Ok(Some(step)) => show_step(shown, step),

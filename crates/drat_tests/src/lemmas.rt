@@ -1,4 +1,4 @@
-//! Small proofs, as rows: what is told of each.
+//! Small proofs, as rows: the outcome of each.
 use crate::{frat_lemmas, witnesses};
 use Steps::{Dpr, Drat, Frat};
 use drat_elaborate::{ElaborateFault, Elaborator};
@@ -18,7 +18,7 @@ pub enum Steps {
     Frat(&'static str),
 }
 
-/// A formula as DIMACS, the steps of a proof, and what is told: the fault of a step that is not
+/// A formula as DIMACS, the steps of a proof, and the outcome: the fault of a step that is not
 /// taken; else the lines, or the fault; the clauses of the formula that are used; the deletions
 /// that met none, or only reasons.
 pub type Row = (&'static str, Steps, &'static str);
@@ -137,8 +137,8 @@ fn show_late(shown: &mut Shown, elaborator: &mut Elaborator) {
     }
 }
 
-/// Takes in deletions and additions. What comes out of order is refused, or says nothing: the lines
-/// before they are made are none.
+/// Takes in deletions and additions. What comes out of order is rejected, or says nothing: the
+/// lines before they are made are none.
 fn take_drat(
     shown: &mut Shown,
     elaborator: &mut Elaborator,

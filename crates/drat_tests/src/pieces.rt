@@ -1,4 +1,4 @@
-//! Runs over a piece of a proof: their lines, faults and statuses, which wanted clause is missing,
+//! Runs over a piece of a proof: their lines, faults and statuses, which target clause is missing,
 //! the lines of the LRAT proof, and the core.
 use drat_check::{LineForm, PieceOutputs, ProofFormat, exit_status, run_piece};
 use log::sink::Discard;
@@ -13,7 +13,7 @@ const PIECE: &str = "s VERIFIED PIECE\n";
 /// The first literal follows from two clauses, and with it the third one gives another.
 const THREE: &str = "1 2 0 1 -2 0 -1 3 0";
 
-/// A formula, the wanted clauses and a piece, and what is told: the line that is written, or the
+/// A formula, the target clauses and a piece, and the outcome: the line that is written, or the
 /// text of the fault; where the piece is not verified, what is said of the first missing clause.
 type Row = (&'static str, &'static str, &'static str, &'static str);
 
@@ -66,7 +66,7 @@ static RUNS: [Row; 29] = [
     ),
     // a clause that is redundant by a variable of its own, and no consequence
     (THREE, "4 0 1 2 0", "4 0\n", PIECE),
-    // one that is neither, once the clause stays that speaks against it: refused where it is wanted
+    // one that is neither, once the clause stays that excludes it: rejected where it is a target
     ("1 2 0 -1 -2 0", "1 0", "1 0\n", PIECE),
     (
         "1 2 0 -1 -2 0",
@@ -88,7 +88,7 @@ static RUNS: [Row; 29] = [
     ),
     // a tautology, and a clause that is redundant by a literal whose negation the tautology has
     ("", "1 2 -2 0 -2 0", "1 2 -2 0\n-2 0\n", PIECE),
-    // a conflict says more than what is wanted
+    // a conflict says more than the target clauses
     (FOUR, "5 0", "1 0\n", VERIFIED),
     ("1 0 -1 0", "5 0", "", VERIFIED),
     ("0", "0", "", VERIFIED),
@@ -132,7 +132,7 @@ fn outputs_to(lrat: Option<Page>, core: Option<Page>) -> PieceOutputs<Page, Page
     }
 }
 
-/// What is told of a piece as it is read. As much of the line is written as there is room for.
+/// The outcome of a piece as it is read. As much of the line is written as fits.
 fn is_answered(
     rt: &impl Abort,
     alloc: Global,
@@ -188,8 +188,8 @@ fn pieces_that_fail(rt: HostRuntime) {
     );
 }
 
-/// The lines of a piece over one clause, which is wanted in another order of its literals, in how
-/// much room, and what is told.
+/// The lines of a piece over one clause, which is a target in another order of its literals, in how
+/// much room, and the outcome.
 static LINES: [(usize, &str, &str); 2] = [
     (usize::MAX, "2 2 1 0 1 0\n", PIECE),
     (4, "2 2 ", "error writing: full"),
@@ -222,7 +222,7 @@ fn lines_of_a_piece(rt: HostRuntime) {
     }
 }
 
-/// A formula, the wanted clauses and a piece; the core that is written, and what is told.
+/// A formula, the target clauses and a piece; the core that is written, and the outcome.
 type CoreRow = (
     &'static str,
     &'static str,
@@ -232,7 +232,7 @@ type CoreRow = (
 );
 
 static CORES: [CoreRow; 12] = [
-    // what is wanted is a clause of the formula, none, or one that two others give
+    // the target is a clause of the formula, none, or one that two others give
     (THREE, "2 1 0", "", "p cnf 2 1\n1 2 0\n", PIECE),
     (THREE, "", "1 0\n", "p cnf 0 0\n", PIECE),
     (
@@ -274,7 +274,7 @@ static CORES: [CoreRow; 12] = [
         "p cnf 3 3\n-1 2 0\n2 3 0\n2 -3 0\n",
         PIECE,
     ),
-    // a conflict says more than what is wanted
+    // a conflict says more than the target clauses
     (
         "5 0 1 2 0 1 -2 0 -1 2 0 -1 -2 0",
         "5 0",
@@ -290,7 +290,7 @@ static CORES: [CoreRow; 12] = [
         VERIFIED,
     ),
     ("1 0 0 2 0", "0", "", "p cnf 0 1\n0\n", VERIFIED),
-    // nothing is written where a clause is missing or refused
+    // nothing is written where a clause is missing or rejected
     (THREE, "3 0", "1 0\n", "", NOT_VERIFIED),
     (
         "1 2 0 -1 -2 0",

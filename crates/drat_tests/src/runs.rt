@@ -184,7 +184,7 @@ fn ran(alloc: Global, (cnf, proof): (&str, Pieces<'_>), format: ProofFormat, roo
     Ended::of(alloc, page, &answer, exit_status(&answer))
 }
 
-/// What is told of the proof. As much of the line is written as there is room for.
+/// The outcome of the proof. As much of the line is written as fits.
 fn is_answered(
     rt: &impl Abort,
     alloc: Global,
@@ -221,7 +221,7 @@ fn runs(rt: HostRuntime) {
     are_answered(&rt, rt.alloc(), FOUR, &AS_DRAT, ProofFormat::Drat);
 }
 
-/// A proof after which a read fails, the room for the line, and what is told.
+/// A proof after which a read fails, the room for the line, and the outcome.
 static BROKEN: [(&[u8], usize, &str); 3] = [
     (b"1 0\n", usize::MAX, VERIFIED),
     (

@@ -4,8 +4,8 @@ use drat_text::{DratFault, DratStep};
 use sat_formula::Lit;
 use test_streams::Shown;
 
-/// Shows a step, as `add` or `delete` with its literals, or the text of a fault. False: it is the
-/// end.
+/// Appends a step, as `add` or `delete` with its literals, or the text of a fault. Returns `false`
+/// at the end.
 pub fn show(shown: &mut Shown, answer: Result<Option<DratStep<'_>>, DratFault>) -> bool {
     match answer {
         Ok(Some(DratStep::Add(lits))) => show_step(shown, "add", lits),

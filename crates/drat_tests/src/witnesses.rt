@@ -9,6 +9,7 @@ const ALIKE: &str = "1 2 0 -1 -2 0 1 3 0 2 3 0 -1 4 0 -2 4 0 -3 -4 5 6 0 -3 -4 5
 
 const NO_WITNESS: &str = "step 1: clause neither follows nor is redundant by its witness";
 
+/// Lemmas with witnesses.
 pub static ROWS: [Row; 7] = [
     // So 1 may hold where 2 does: the clause 1 -2, by the witness 1 -2. It touches 1 2 and -1 -2,
     // which have a literal of it, and 2 3 and -1 4, of which 3 and 4 are left. The variable 7 is
@@ -27,7 +28,7 @@ pub static ROWS: [Row; 7] = [
     (ALIKE, Dpr("1 -2 1 -2 -4 0 1 0 5 0"), NO_WITNESS),
     // Where 2 stays as it is, nothing is left of -1 -2.
     (ALIKE, Dpr("1 -2 1 2 0 1 0 5 0"), NO_WITNESS),
-    // Without a witness, or where it is the first literal alone, that literal has to do.
+    // Without a witness, or where it is the first literal alone, that literal must do.
     (
         ALIKE,
         Dpr("1 -2 1 1 0 1 0 5 0"),

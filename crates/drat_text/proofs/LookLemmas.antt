@@ -1,4 +1,4 @@
--- What the bytes ahead tell of the format.
+-- What the bytes ahead show of the format.
 use Rattle.std.proofs.Common.{◌≡◌, ℕ, ◌+◌, ◌≤◌, ◌<◌, List, [], ◌∷◌, Option, None, Some, IfSome, false, Result, Ok, Err, refl, sym, ap, ◌∙◌, subst, length, take, arith}
 use Rattle.std.specs.Prelude.{IsSome, slice_get, unwrap_or}
 use Rattle.std.specs.List.{list_all}
@@ -38,7 +38,7 @@ module _ {R : Type 0} (remaining : R → Option (List ℕ)) where
 
   module _ (old mid new : Bytes R) (place : ℕ) (byte here : Option ℕ) (on : LooksOn old mid place) (is : byte ≡ here)
       (peeks : Peeks (unread_bytes remaining mid) (unread_bytes remaining new) place (source_of new) (Ok byte)) where
-    -- the byte that is looked at next stands at its place in all the bytes
+    -- the byte that is looked at next is at its place in all the bytes
     pub looks_at : Peeks (unread_bytes remaining old) (unread_bytes remaining new) place (source_of new) (Ok here)
     looks_at =
         let p = rw is at peeks in (

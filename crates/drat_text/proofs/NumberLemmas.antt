@@ -60,7 +60,7 @@ module _ {S T : Type 0} (r : Rules S T) where
 -- ---- a number that is taken
 
 module _ {S T F : Type 0} (r : Rules S T) (step : F → T) (slot : S) (n : After S T) where
-  -- a step goes on
+  -- a step continues
   pub going : {a b : Known} {f : List ℕ → Outcome T} (last : Bool) → last ≡ false → Says r n last a b f → TakesNumber step slot n (Ok None) → Leads a b f (outcome_at r Text (Within slot))
   going last e s t = on_as r Text {d = n} {e = Goes (Within slot)} (rw e at s) t
 

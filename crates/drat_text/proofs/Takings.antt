@@ -93,7 +93,7 @@ front_stays (Some x) None front taken e h = absurd h
 front_stays (Some x) (Some y) front taken (inl e) h = rw e h
 front_stays (Some x) (Some y) front taken (inr e) h = rw e (ap (λ (l : List ℕ). front ++ l) (rw e at h))
 
--- none are taken where others stand in front of them
+-- none are taken where others come in front of them
 pub ahead_taken : (passed : ℕ) (front ahead : List ℕ) (a b : Known) (count : ℕ) → count ≤ length (if nat_lt passed (length front) then [] else ahead) → Consumes a b (take count ahead) →
     Consumes (prepend_known (drop passed front) a) (prepend_known (drop passed front) b) (take count (if nat_lt passed (length front) then [] else ahead))
 ahead_taken passed front ahead a b count le h = elim (cases_Bool (nat_lt passed (length front))) [
@@ -134,7 +134,7 @@ module _ {S T : Type 0} (r : Rules S T) (format : Format) where
 
   -- ---- a byte
 
-  -- what a byte does is what the outcome goes on with
+  -- what a byte does is what the outcome continues with
   pub front_byte : (p : Place S) (x : ℕ) {d : After S T} → after r format p x ≡ d → (m : List ℕ) → outcome_at r format p (x ∷ m) ≡ goes_on r format d m
   unfolding outcome_at
   front_byte p x e m = ap (λ (d : After S T). goes_on r format d m) e

@@ -17,7 +17,7 @@ letter_d = 100
 abbrev pub begins_comment : ℕ → Bool
 begins_comment b = b == letter_c || (b == percent_sign)
 
--- what stands between the words of a text: a blank or an LF
+-- what is between the words of a text: a blank or an LF
 abbrev pub is_space : ℕ → Bool
 is_space b = is_blank b || is_lf b
 

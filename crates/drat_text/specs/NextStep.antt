@@ -28,7 +28,7 @@ module _ {G R : Type 0} where
   abbrev pub draft_of : StepReader G R → G
   draft_of r = r.draft
 
-  -- the bytes that are still to come, where the reader beneath tells them
+  -- the bytes that are still to come, if the reader beneath says them
   abbrev pub bytes_left : (R → Option (List ℕ)) → StepReader G R → Option (List ℕ)
   bytes_left remaining r = unread_bytes remaining r.bytes
 
@@ -44,7 +44,7 @@ module _ {G R : Type 0} where
   abbrev pub steps_given : StepReader G R → ℕ
   steps_given r = r.steps
 
-  -- the format, where the first bytes have told it
+  -- the format, where it was detected
   abbrev pub known_format : StepReader G R → Option Format
   known_format r = r.format
 
@@ -82,7 +82,7 @@ Explains source steps stops.OutOfMemory r = r ≡ Err faults.OutOfMemory
 -- ---- a call, by the rules of the proof
 
 module _ {G R S T : Type 0} (rules : Rules S T) (remaining : R → Option (List ℕ)) where
-  -- the format of these bytes to come: it stays, and is told by them before the first step
+  -- the format of these bytes to come: it stays, and is detected from them before the first step
   abbrev pub format_for : StepReader G R → List ℕ → Format
   format_for r bytes = unwrap_or (known_format r) (format_of rules bytes)
 
@@ -127,7 +127,7 @@ module _ {G R S T : Type 0} (rules : Rules S T) (remaining : R → Option (List 
     pub format : (format : Format) → known_format old ≡ Some format
         → known_format new ≡ Some format
 
-  -- the format was told, unless a read failed or memory ran out
+  -- the format was detected, unless a read failed or memory ran out
   abbrev pub ToldBy : {X : Type 0} → StepReader G R → StepReader G R → Result X Stop → Type 0
   ToldBy old new (Ok x) = TellsFormat old new
   ToldBy old new (Err stops.End) = TellsFormat old new
@@ -147,7 +147,7 @@ module _ {G R S T : Type 0} (rules : Rules S T) (remaining : R → Option (List 
     pub steps : steps_given new ≡ steps_given old
     pub ended : has_ended new ≡ has_ended old
 
-  -- the format was told, and no byte taken
+  -- the format was detected, and no byte taken
   pub record SeesFormat (old new : StepReader G R) (r : Result Format Stop) : Type 0 where
     pub looks : Looked (bytes_left remaining old) (bytes_left remaining new) (source_of new.bytes) r
     pub format : OnOk r (TellsFormat old new)

@@ -4,7 +4,7 @@ use Rattle.sat_formula.specs.Vars.{lit_code}
 use Rattle.drat_text.specs.declared.fault.DratKind.{DratKind}
 use Rattle.drat_text.specs.declared.fault.DratKind.TheVariants.{Malformed, NumberTooLarge}
 
--- a number of this value, after a `-` or not; the literal stands as its code
+-- a number of this value, after a `-` or not; the literal is given by its code
 abbrev pub lit_said : Bool → ℕ → Result (Option ℕ) DratKind
 lit_said negative v =
     if v == 0 then (if negative then Err Malformed else Ok None)

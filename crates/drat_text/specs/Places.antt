@@ -1,7 +1,7 @@
 -- A proof, a byte after the other, by the rules of its kind. Text: steps of numbers up to one that ends them, after a letter
 -- or not; comments between them say nothing. Binary: a letter, and then numbers of seven bits a byte, low first.
 --     Rules      what steps begin with, and what numbers do in them
---     Place, After, after      where a byte stands, and what it does there
+--     Place, After, after      the position of a byte, and what it does there
 --     at_end      what the end of the input gives
 use Rattle.std.specs.Prelude.{ℕ, ◌+◌, ◌-◌, ◌*◌, ◌/◌, ◌%◌, ◌^◌, min, Bool, true, false, [], ◌∷◌, Option, Some, None, ◌==◌, if◌then◌else◌}
 use Rattle.sat_formula.specs.Bytes.{minus_sign, digit_zero, is_digit, is_lf}
@@ -26,7 +26,7 @@ pub data Place (S : Type 0) : Type 0 where
   Within : S → Place S
   InNumber : S → Number → Place S
 
--- what one byte or number does: the reading goes on, a step ends, or nothing more is read
+-- what one byte or number does: the reading continues, a step ends, or nothing more is read
 pub data After (S T : Type 0) : Type 0 where
   Goes : Place S → After S T
   Gives : T → After S T

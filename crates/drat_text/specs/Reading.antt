@@ -85,7 +85,7 @@ module _ {S T : Type 0} (r : Rules S T) where
   ReadsTo p old new f source (Ok x) = Leads old new f (outcome_at r Text p)
   ReadsTo p old new f source (Err stop) = Stopped r Text old new f source stop
 
-  -- the first byte of a step of text, which stands before the rest
+  -- the first byte of a step of text, which comes before the rest
   abbrev pub ReadsFirst : {R : Type 0} → Option (List ℕ) → Option (List ℕ) →
       (List ℕ → Outcome T) → Source R → Result ℕ Stop → Type 0
   ReadsFirst old new f source (Ok byte) =

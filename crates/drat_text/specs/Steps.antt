@@ -11,6 +11,6 @@ pub data Ending : Type 0 where
 abbrev pub Outcome : Type 0 → Type 0
 Outcome T = List T × Ending
 
--- an outcome behind this step
+-- an outcome after this step
 abbrev pub with_step : {T : Type 0} → T → Outcome T → Outcome T
 with_step step o = (step ∷ o.0, o.1)

@@ -13,7 +13,7 @@ use Rattle.drat_text.specs.Places.{Place, Rules}
 use Rattle.drat_text.specs.Proofs.{outcome_at}
 use Rattle.drat_text.specs.Steps.{Outcome, Ended, Faulty}
 
--- the source behind what was looked at
+-- the source after what was looked at
 abbrev pub source_of : {R : Type 0} → Bytes R → Source R
 source_of s = s.source
 
@@ -25,7 +25,7 @@ front_of s = drop s.taken s.front.items
 abbrev pub unread_bytes : {R : Type 0} → (R → Option (List ℕ)) → Bytes R → Option (List ℕ)
 unread_bytes remaining s = prepend_known (front_of s) (unread remaining s.source)
 
--- what is read ahead, unless bytes stand in front of it
+-- what is read ahead, unless bytes come in front of it
 abbrev pub ahead_in : {R : Type 0} → Bytes R → List ℕ
 ahead_in s = if nat_lt s.taken (length s.front.items) then [] else ahead_of s.source
 
@@ -52,7 +52,7 @@ TakesWithin old new source (Err (stops.Wrong kind)) = Keeps old new × IsAtEnd n
     × (kind ≡ Unfinished)
 TakesWithin old new source (Err stops.OutOfMemory) = Unit {0}
 
--- what f tells of the bytes, none of which was taken
+-- what f detects of the bytes, none of which was taken
 abbrev pub Looks : {R X : Type 0} → (List ℕ → X) → Option (List ℕ) → Option (List ℕ) →
     Source R → Result X Stop → Type 0
 Looks f old new source (Ok x) = Keeps old new × IfSome old (λ bytes. x ≡ f bytes)

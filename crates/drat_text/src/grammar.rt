@@ -41,6 +41,10 @@ pub trait Grammar: Drop {
         ensures { result ≡ rules.is_signed (slot_of self.now) };
 
     /// Takes the next number. Returns the step, if the number ends it.
+    ///
+    /// # Errors
+    ///
+    /// Why the number is not allowed here, or out of memory.
     fn take(&mut self, negative: bool, value: u64) -> Result<Option<Self::Found>, Stop>
         ensures { TakesNumber (step_of self.new) (slot_of self.new)
             (rules.said (slot_of self.old) negative value) result };

@@ -1,6 +1,6 @@
 -- How much a box shows after a list of steps, where it shows one byte more with each.
 --     OneGrew shown old n news      of the one box old came one that shows n bytes more
---     Told, told      by what the calls of a run ensure, the one box that is left shows as many bytes more as steps were told
+--     Told, told      by what the calls of a run ensure, the one box that is left shows as many bytes more as steps were delivered
 --     some-left, grown      what is read of that box
 --     no-memory, processor-refused, formula-refused, proof-refused      what else is answered
 use Rattle.std.proofs.Common.{◌≡◌, ℕ, ◌+◌, ◌-◌, ◌≤◌, ◌<◌, false, List, [], ◌∷◌, ◌++◌, map, length, get_or, Option, None, Ok, Err, inl, refl, sym, ap, ◌∙◌, subst, arith, length-append}
@@ -90,7 +90,7 @@ boxed took faulted shown = record {
   shown = λ b. shown b.vtable b.value;
 }
 
--- a new checker, a box registered with it, a formula, a proof: the one box that is left shows as many bytes more as steps were told
+-- a new checker, a box registered with it, a formula, a proof: the one box that is left shows as many bytes more as steps were delivered
 pub told : {V A C : Type 0} {F : V → Type 0} (took faulted : (v : V) → F v → NamedStep → F v → Type 0) (shown : (v : V) → F v → List ℕ)
     (listens_image : ListensImage C)
     (formula : List (List ℕ)) (known : Option (List ℕ)) (old : DynBox V A F) (none first mid last : Listeners (DynBox V A F) C) (r s s' u : State) →
@@ -134,14 +134,14 @@ no-memory known formula = inl (fail new_state, refl)
 pub processor-refused : (known : Option (List ℕ)) (formula : List (List ℕ)) (e : CheckerError) (r : State) → r ≡ new_state → (r.failed ≡ false → e ≡ OutOfMemory) → IsRefused known formula e
 processor-refused known formula e r new given = subst (IsRefused known formula) (sym (given (ap (λ (x : State). x.failed) new))) (no-memory known formula)
 
--- a refused formula
+-- a rejected formula
 pub formula-refused : (known : Option (List ℕ)) (formula : List (List ℕ)) (e : CheckerError) (r s s' : State) → r ≡ new_state → s ≡ r →
     (s.failed ≡ false → AnswersStep {A = Unit {0}} (Err e) (add_clauses s formula) s') → IsRefused known formula e
 formula-refused known formula e r s s' new same answers =
     let fresh : s ≡ new_state = same ∙ new in
     inl (s', subst (λ x. AnswersStep {A = Unit {0}} (Err e) (add_clauses x formula) s') fresh (answers (ap (λ (x : State). x.failed) fresh)))
 
--- a refused proof
+-- a rejected proof
 pub proof-refused : {B C : Type 0} {listens : Listens B} {listens_image : ListensImage C}
     {mid last : Listeners B C} (known : Option (List ℕ)) (formula : List (List ℕ)) (e : CheckerError) (r s s' u : State) → r ≡ new_state →
     s ≡ r

@@ -21,7 +21,7 @@ pub record FollowRows : Type 0 where
   pub asked : follow_clauses 2 two ((pos 2 ∷ []) ∷ (neg 1 ∷ neg 2 ∷ []) ∷ []) ≡
       (pos 1 ∷ pos 2 ∷ []) ∷ (neg 1 ∷ pos 2 ∷ []) ∷ (neg 3 ∷ neg 2 ∷ []) ∷ (neg 4 ∷ pos 1 ∷ []) ∷
       (neg 4 ∷ pos 2 ∷ []) ∷ (pos 3 ∷ pos 4 ∷ []) ∷ []
-  -- a formula that can be satisfied, a clause that stands twice, and one that is not needed
+  -- a formula that can be satisfied, a clause that occurs twice, and one that is not needed
   pub satisfiable : IsMinimal ((pos 1 ∷ []) ∷ []) → ⊥
   pub twice : IsMinimal ((pos 1 ∷ []) ∷ (neg 1 ∷ []) ∷ (pos 1 ∷ []) ∷ []) → ⊥
   pub needless : IsMinimal ([] ∷ (pos 1 ∷ []) ∷ []) → ⊥

@@ -1,5 +1,5 @@
 -- Files of claims.
---     lacks_clauses header      a header that lies says more clauses than there are
+--     lacks_clauses header      a header that does not match says more clauses than there are
 --     AreClaims text claims      the text is these claims, and none is missing
 --     LacksClauses text      some are missing
 use Rattle.std.specs.Prelude.{◌≡◌, ℕ, nat_lt, Bool, true, false, List, [], Option, Some, None, IfSome}
@@ -10,7 +10,7 @@ use Rattle.sat_formula.specs.Outcome.{Ended}
 use Rattle.sat_formula.specs.Whole.{IsOutcome}
 use Rattle.whole_formulas.specs.Lies.{lie_in}
 
--- a header that lies says more clauses than there are
+-- a header that does not match says more clauses than there are
 abbrev pub lacks_clauses : Option LyingHeader → Bool
 lacks_clauses None = false
 lacks_clauses (Some header) = nat_lt header.counts.clauses header.said.clauses

@@ -3,7 +3,7 @@
 --     assigned model values      the values after those that a model lists
 --     without i cs      the clauses without the one at this place
 --     IsMinimalText text      no assignment satisfies the clauses of the text, and each of them is needed for that
---     ShowsMinimal formula verdict      a verdict that says no more than is so
+--     ShowsMinimal formula verdict      a verdict that is true
 --     minimal_line verdict, shows_minimal verdict      its line;  whether that is what was asked
 use Rattle.std.specs.Prelude.{◌≡◌, ◌<◌, ℕ, zero, suc, not, Bool, true, false, List, [], ◌∷◌, length, codes, slice_index_or, slice_set}
 use Rattle.sat_rules.specs.Clauses.{all_true, is_negative, var_of}

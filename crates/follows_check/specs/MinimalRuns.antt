@@ -17,7 +17,7 @@ use Rattle.follows_check.specs.declared.minimal.CoreFault.{CoreFault}
 use Rattle.follows_check.specs.declared.minimal.CoreFault.TheVariants.{Formula, FewClauses, Proof, Models, Write}
 use Rattle.follows_check.specs.declared.minimal.MinimalVerdict.{MinimalVerdict}
 
--- the whole text is a formula, its header says no more clauses than there are, and this is so of it
+-- the whole text is a formula, its header says no more clauses than there are, and this holds of it
 pub record OfCore (cnf : Option (List ℕ)) (P : List (List ℕ) → Type 0) : Type 0 where
   pub formula : List (List ℕ)
   pub whole : IsOutcome (option_map outcome_of cnf) (formula, Ended)
@@ -48,12 +48,12 @@ IsRefusedCore (Ok verdict) = ⊥
 IsRefusedCore (Err (Write cause)) = ⊥
 IsRefusedCore r = Unit {0}
 
--- the verdict stands, and its line was not written whole
+-- there is a verdict, and its line was not written whole
 abbrev pub IsUnwrittenCore : Result MinimalVerdict CoreFault → Type 0
 IsUnwrittenCore (Err (Write cause)) = Unit {0}
 IsUnwrittenCore r = ⊥
 
--- an output grew by a beginning of the line of a verdict that says no more than is so
+-- an output grew by a beginning of the line of a verdict that is true
 pub record BeginsMinimalLine (cnf old new : Option (List ℕ)) : Type 0 where
   pub verdict : MinimalVerdict
   pub shown : OfCore cnf (λ formula. ShowsMinimal formula verdict)

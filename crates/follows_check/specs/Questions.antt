@@ -1,6 +1,6 @@
 -- A formula and claims, as one formula for a solver.
 --     first_free cs ds      the first variable that is in neither formula
---     OfQuestion cnf claims P      both texts can be read, and this is so of their clauses
+--     OfQuestion cnf claims P      both texts can be read, and this holds of their clauses
 --     asks formula claims asked      this is the formula for the solver
 --     FailsClaims claims fault      what is wrong with the claims
 --     FailsQuestion cnf claims fault      why there is no formula for the solver
@@ -16,7 +16,7 @@ use Rattle.follows_check.specs.Claims.{AreClaims, LacksClauses}
 use Rattle.follows_check.specs.declared.fault.QuestionFault.{QuestionFault}
 use Rattle.follows_check.specs.declared.fault.QuestionFault.TheVariants.{Formula, Claims, FewClaims, NoClaim, ManyVariables, OutOfMemory}
 
--- the first variable that is in neither formula, nor is any behind it
+-- the first variable that is in neither formula, nor is any after it
 abbrev pub first_free : List (List ℕ) → List (List ℕ) → ℕ
 first_free cs ds = max (var_count_of cs) (var_count_of ds)
 
@@ -24,7 +24,7 @@ first_free cs ds = max (var_count_of cs) (var_count_of ds)
 abbrev pub asks : List (List ℕ) → List (List ℕ) → List (List ℕ) → Type 0
 asks formula claims asked = asked ≡ follow_clauses (first_free formula claims) formula claims
 
--- the whole texts are this formula and these claims, of which this is so
+-- the whole texts are this formula and these claims, of which this holds
 pub record OfQuestion (cnf claims : Option (List ℕ)) (P : List (List ℕ) → List (List ℕ) → Type 0) :
     Type 0 where
   pub formula : List (List ℕ)
@@ -33,7 +33,7 @@ pub record OfQuestion (cnf claims : Option (List ℕ)) (P : List (List ℕ) → 
   pub are : AreClaims claims claimed
   pub holds : P formula claimed
 
--- the whole text is a formula, and this is so
+-- the whole text is a formula, and this holds
 pub record AfterFormula (cnf : Option (List ℕ)) (P : Type 0) : Type 0 where
   pub formula : List (List ℕ)
   pub read : IsOutcome (option_map outcome_of cnf) (formula, Ended)

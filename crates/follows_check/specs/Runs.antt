@@ -38,7 +38,7 @@ IsProofRun cnf claims (Err (Answer fault)) = ⊥
 IsProofRun cnf claims (Err (Cut cut)) = ⊥
 IsProofRun cnf claims (Err (Write cause)) = OfQuestion cnf claims (λ formula claimed. Unit {0})
 
--- an output grew by a beginning of the line of a verdict that says no more than is so
+-- an output grew by a beginning of the line of a verdict that is true
 pub record BeginsProofLine (cnf claims old new : Option (List ℕ)) : Type 0 where
   pub verdict : Verdict
   pub shown : OfQuestion cnf claims (λ formula claimed. IsShown formula claimed verdict)
@@ -52,7 +52,7 @@ verdict_of judgments.Verified (Some failing) = NotFollows failing.claim failing.
 verdict_of judgments.Verified None = NoneFails
 verdict_of (judgments.NotVerified clause line) failing = Unmet clause line
 
--- the answer lists literals of which no two are opposite, and this is so of them
+-- the answer lists literals of which no two are opposite, and this holds of them
 pub record OfAnswer (answer : Option (List ℕ)) (P : List ℕ → Type 0) : Type 0 where
   pub lits : List ℕ
   pub lists : IsOutcome answer (Lists lits)
@@ -107,7 +107,7 @@ IsRefusedRun (Ok verdict) = ⊥
 IsRefusedRun (Err (Write cause)) = ⊥
 IsRefusedRun r = Unit {0}
 
--- the verdict stands, and its line was not written whole
+-- there is a verdict, and its line was not written whole
 abbrev pub IsUnwritten : Result Verdict RunFault → Type 0
 IsUnwritten (Err (Write cause)) = Unit {0}
 IsUnwritten r = ⊥
@@ -119,7 +119,7 @@ abbrev pub BeginsQuestion : Option (List ℕ) → Option (List ℕ) → Option (
 BeginsQuestion cnf claims old new = OfQuestion cnf claims (λ formula claimed.
     AppendsBeginning old new (formula_text (follow_clauses (first_free formula claimed) formula claimed)))
 
--- the formula or the claims were refused, and nothing was written; or a beginning was
+-- the formula or the claims were rejected, and nothing was written; or a beginning was
 abbrev pub IsUnasked : {W : Type 0} → Option (List ℕ) → Option (List ℕ) → (W → Option (List ℕ)) → W → W → RunFault → Type 0
 IsUnasked cnf claims contents old new (Question fault) = FailsQuestion cnf claims fault × (new ≡ old)
 IsUnasked cnf claims contents old new (Proof fault) = ⊥

@@ -6,7 +6,7 @@ use std::io::ErrorKind;
 use std::process::Abort;
 use test_streams::{Ended, NOT_VERIFIED, Page, Pieces};
 
-/// A formula, claims and an answer, what is told, and which claim fails, or which clause of the
+/// A formula, claims and an answer, the outcome, and which claim fails, or which clause of the
 /// formula is not met, with its line.
 const RUNS: [(&str, &str, &str, &str, (u64, u64)); 17] = [
     ("1 2 0", "2 0", "1 -2 3 0", NOT_FOLLOWS, (1, 1)),
@@ -90,7 +90,7 @@ fn place_of(answer: &Result<Verdict, RunFault>) -> (u64, u64) {
     }
 }
 
-/// What is told of an answer, and where. As much of the line is written as there is room for.
+/// The outcome of an answer, and where. As much of the line is written as fits.
 fn is_told(
     rt: &impl Abort,
     alloc: Global,

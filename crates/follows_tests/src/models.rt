@@ -15,13 +15,13 @@ const FIVE: &str = "1 2 0 1 -2 0 -1 2 0 -1 -2 0 1 2 0";
 /// For each of the four clauses the assignment that fails it.
 const MODELS: &str = "-1 -2 0 -1 2 0 1 -2 0 1 2 0";
 
-/// A formula, a proof and models, what is told, the model that is missing or fails, and the other
+/// A formula, a proof and models, the outcome, the model that is missing or fails, and the other
 /// clause that it fails.
 const RUNS: [(&str, &str, &str, &str, (u64, u64)); 13] = [
     (FOUR, "1 0 0", MODELS, MINIMAL, (0, 0)),
     // each model by what changes
     (FOUR, "1 0 0", "0 2 0 1 -2 0 2 0", MINIMAL, (0, 0)),
-    // what stands behind the last one is not read
+    // what follows the last one is not read
     ("0", "", "0 x", MINIMAL, (0, 0)),
     ("1 0 -1 0", "", "-1 0 1 0", MINIMAL, (0, 0)),
     // a clause that stands twice, and one that is not needed
@@ -59,7 +59,7 @@ fn place_of(answer: &Result<MinimalVerdict, CoreFault>) -> (u64, u64) {
     }
 }
 
-/// What is told of a core, and where. As much of the line is written as there is room for.
+/// The outcome of a core, and where. As much of the line is written as fits.
 fn is_told(
     rt: &impl Abort,
     alloc: Global,

@@ -14,8 +14,8 @@ const NO_CLAIM: &str = "claims: there is no clause";
 
 const MANY: &str = "claims: there are too many for the variables that are left";
 
-/// A formula, claims and a proof, and what is told. The selector of the first claim is the variable
-/// behind those of both.
+/// A formula, claims and a proof, and the outcome. The selector of the first claim is the variable
+/// after those of both.
 const RUNS: [(&str, &str, &str, &str); 22] = [
     // one that follows by propagation, and one that needs a step
     (TWO, "2 0", "", FOLLOWS),
@@ -55,7 +55,7 @@ const RUNS: [(&str, &str, &str, &str); 22] = [
     (TWO, "2 0\n2 x 0", "", "claims: line 2: bad number"),
 ];
 
-/// What is told of a proof. As much of the line is written as there is room for.
+/// The outcome of a proof. As much of the line is written as fits.
 fn is_told(
     rt: &impl Abort,
     alloc: Global,

@@ -9,7 +9,7 @@ use Rattle.frat_text.specs.declared.telling.Sight.TheVariants.{Later, Told}
 use Rattle.frat_text.specs.Bytes.{is_frat, seen_at, told_by}
 use Rattle.drat_text.proofs.FrontLemmas.{Known}
 
--- the bytes from a place on tell what all tell
+-- the bytes from a place on show what all show
 abbrev pub Remains : Known → ℕ → Bool → Type 0
 Remains a place in_comment = IfSome a (λ bytes. is_frat bytes ≡ told_by in_comment (drop place (take 4096 bytes)))
 

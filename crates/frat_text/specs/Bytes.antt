@@ -1,4 +1,4 @@
--- The bytes with which steps begin, and how the first ones of a proof tell what it is.
+-- The bytes with which steps begin, and how the format is detected from the first ones of a proof.
 use Rattle.std.specs.Prelude.{ℕ, Bool, true, false, not, ◌||◌, List, [], ◌∷◌, Option, Some, None, ◌==◌, take, if◌then◌else◌}
 use Rattle.sat_formula.specs.Bytes.{is_lf}
 use Rattle.drat_text.specs.Bytes.{letter_a, letter_d, begins_comment, is_space}
@@ -35,7 +35,7 @@ slot_begun b =
 
 -- ---- FRAT or DRAT
 
--- what a byte before the first step tells, in a comment or not: with `o`, `f`, `l` and `r` no step of DRAT begins
+-- what a byte before the first step shows, in a comment or not: with `o`, `f`, `l` and `r` no step of DRAT begins
 abbrev pub seen_at : Bool → ℕ → Sight
 seen_at true b = Later (not (is_lf b))
 seen_at false b =

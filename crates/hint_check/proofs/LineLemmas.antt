@@ -35,7 +35,7 @@ module _ (h k : Listed) (xs : List (ℕ × Line)) (run : Run h xs k) (bytes : Li
   accepted forms.Text e = accepts h k xs run bytes e
   accepted (forms.Binary ids) e = record { given = xs; says = e; leads_to = run_leads h k xs run }
 
-  -- those before one that is refused, or can't be read
+  -- those before one that is rejected, or can't be read
   stopped : (form : LratForm) (later : Outcome) → outcome_in form bytes ≡ with_lines xs later → (m : ℕ) → IsExact form m →
       (fault : LineFault) → Stops k later.0 later.1 m fault → RefusesIn form h bytes m fault
   stopped forms.Text later e m below fault stops = refuses h k xs run bytes later e m below fault stops
@@ -63,7 +63,7 @@ module _ {R : Type 0} (remaining : R → Option (List ℕ)) (known : Known) (for
       counted = still_counted remaining old new line gives so.counted;
     }
 
-    -- a line that is refused
+    -- a line that is rejected
     pub so_far_refused : (line : LratLine) → Gives remaining old new (Ok (Some line)) → (fault : LineFault) → IsCause fault (refusal k (as_hints (view line))) →
         IsProofRefusal form known h (Refused (in_line fault (line_number new)))
     so_far_refused line gives fault cause =

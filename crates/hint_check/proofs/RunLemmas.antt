@@ -46,7 +46,7 @@ accepted_hints ids known formula count answer counted found = record {
         false_from_ne_true (all_true a formula) (hints_refute formula lines.0 found.2.held lines.1 (sym r) a)
     by false r e a = absurd cc
 
--- a line was refused
+-- a line was rejected
 pub refused_hints : (ids : Option Ids) (known : Known) (formula : List (List ℕ)) (count : ℕ) (fault : HintFault) → count ≡ length formula →
     (form : LratForm) × IsToldForm ids count known form × IsProofRefusal form known (listing formula) (Refused fault) → ChecksHints ids known formula (Err (Hints fault))
 refused_hints ids known formula count fault counted found = record { form = found.0; told = subst (λ n. IsToldForm ids n known found.0) counted found.1; refusal = found.2 }

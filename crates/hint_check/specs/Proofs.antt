@@ -1,6 +1,6 @@
 -- A proof in lines of hints, text or binary.
---     IsToldForm ids n known form      after a formula of n clauses, the form is the one that the bytes tell
---     Accepts ids h bytes k, Refuses ids h bytes n fault      binary lines are all accepted;  line n is the first that is refused
+--     IsToldForm ids n known form      after a formula of n clauses, the form is the one detected from the bytes
+--     Accepts ids h bytes k, Refuses ids h bytes n fault      binary lines are all accepted;  line n is the first that is rejected
 --     AcceptsIn, RefusesIn      so it is with a text in this form
 --     AcceptsProof, IsProofRefusal      so it is with the text of a reader
 use Rattle.std.specs.Prelude.{◌≡◌, ℕ, Bool, List, Option, IfSome}
@@ -22,7 +22,7 @@ use Rattle.hint_checker.specs.declared.fault.HintTextFault.{HintTextFault}
 use Rattle.hint_checker.specs.declared.fault.HintTextFault.TheVariants.{Read, Refused}
 use Rattle.hint_checker.specs.declared.fault.LineFault.{LineFault}
 
--- the form of a proof, where its bytes are known: the one that they tell, with the ids as they are given, where they are
+-- the form of a proof, where its bytes are known: the detected one, with the ids as they are given, where they are
 abbrev pub IsToldForm : Option Ids → ℕ → Option (List ℕ) → LratForm → Type 0
 IsToldForm ids n known form = IfSome known (λ bytes. form ≡ form_of ids n bytes)
 
@@ -32,7 +32,7 @@ pub record Accepts (ids : Ids) (h : Listed) (bytes : List ℕ) (k : Listed) : Ty
   pub says : binary_of ids bytes ≡ (given, Ended)
   pub leads_to : Leads (lines_said given) h k
 
--- the binary lines before line n are accepted after h, and that one is refused
+-- the binary lines before line n are accepted after h, and that one is rejected
 pub record Refuses (ids : Ids) (h : Listed) (bytes : List ℕ) (n : ℕ) (fault : LineFault) : Type
     0 where
   pub before : List (ℕ × Line)

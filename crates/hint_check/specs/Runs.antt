@@ -1,10 +1,10 @@
--- Runs over a formula and a proof in lines of hints. `ids` is how ids stand in binary lines, where it is given.
---     AcceptsHints, RefusesHints, ChecksHints      all lines were accepted;  one was refused;  the answer of checking them over a formula
+-- Runs over a formula and a proof in lines of hints. `ids` is the encoding of ids in binary lines, where it is given.
+--     AcceptsHints, RefusesHints, ChecksHints      all lines were accepted;  one was rejected;  the answer of checking them over a formula
 --     IsUnread cause fault      what is answered where a read failed
 --     CheckRun ids cnf lrat r      the run over both texts
 --     IsRefusedRun r      the formula or the hints were not accepted
 --     IsUnwritten r, BeginsLine      the verdict's line was not written whole, and what was written then
---     RunTellsLie cnf r told      this is told of the formula's header
+--     RunTellsLie cnf r told      this is reported of the formula's header
 use Rattle.std.specs.Prelude.{◌≡◌, ◌≢◌, ℕ, Bool, false, List, length, Option, None, Result, Ok, Err}
 use Rattle.std.specs.IoError.{error_kind}
 use Rattle.std.specs.Option.{option_map}
@@ -47,7 +47,7 @@ pub record RefusesHints (ids : Option Ids) (lrat : Option (List ℕ)) (formula :
   pub told : IsToldForm ids (length formula) lrat form
   pub refusal : IsProofRefusal form lrat (listing formula) (Refused fault)
 
--- all lines are accepted, or the first that is not is named; a failed read wanted no memory
+-- all lines are accepted, or the first that is not is named; a failed read was not out of memory
 abbrev pub ChecksHints : Option Ids → Option (List ℕ) → List (List ℕ) → Result Verdict RunFault →
     Type 0
 ChecksHints ids lrat formula (Ok verdict) = AcceptsHints ids lrat formula verdict
@@ -56,7 +56,7 @@ ChecksHints ids lrat formula (Err (Read cause)) = error_kind cause ≢ OutOfMemo
 ChecksHints ids lrat formula (Err (Formula fault)) = ⊥
 ChecksHints ids lrat formula (Err (Write cause)) = ⊥
 
--- a failed read wanted memory, or its error is answered
+-- a failed read was out of memory, or its error is answered
 abbrev pub IsUnread : Error → RunFault → Type 0
 IsUnread cause (Hints fault) = (error_kind cause ≡ OutOfMemory) × (fault ≡ hints.OutOfMemory)
 IsUnread cause (Read error) = (error_kind cause ≢ OutOfMemory) × (error ≡ cause)
@@ -85,7 +85,7 @@ CheckRun ids cnf lrat (Err (Write cause)) =
     (verdict : Verdict) × ReadAndChecked ids cnf lrat (Ok verdict)
 CheckRun ids cnf lrat r = ReadAndChecked ids cnf lrat r
 
--- the verdict stands, and its line was not written whole
+-- there is a verdict, and its line was not written whole
 abbrev pub IsUnwritten : Result Verdict RunFault → Type 0
 IsUnwritten (Err (Write cause)) = Unit {0}
 IsUnwritten r = ⊥
@@ -96,7 +96,7 @@ pub record BeginsLine (ids : Option Ids) (cnf lrat old new : Option (List ℕ)) 
   pub checked : ReadAndChecked ids cnf lrat (Ok verdict)
   pub begins : AppendsBeginning old new (shown_line verdict)
 
--- what the header lies about, where the formula was read whole; else nothing
+-- the mismatch of the header, if the formula was read whole; else nothing
 abbrev pub RunTellsLie : Option (List ℕ) → Result Verdict RunFault → Option LyingHeader → Type 0
 RunTellsLie cnf (Err (Formula fault)) told = told ≡ None
 RunTellsLie cnf r told = IsLie cnf told

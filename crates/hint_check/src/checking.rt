@@ -12,7 +12,7 @@ use std::alloc::Global;
 use std::io::Read;
 
 /// Returns whether a line of a proof adds the empty clause, after a formula of this many clauses.
-/// Each line has to be accepted.
+/// Each line must be accepted.
 pub(crate) fn check_proof<H: Read + Drop>(
     alloc: Global,
     checker: HintChecker,

@@ -1,4 +1,4 @@
--- A text that is accepted leads to one listing, and is never refused.
+-- A text that is accepted leads to one listing, and is never rejected.
 use Rattle.std.proofs.Common.{◌≡◌, ℕ, List, [], ◌∷◌, ◌++◌, Option, Some, None, refl, sym, ap, ◌∙◌, subst}
 use Rattle.std.specs.Option.{option_map}
 use Rattle.std.proofs.lemmas.Option.{none-some}
@@ -23,7 +23,7 @@ front_said : (x : HintLine) (o : Option (List HintLine)) (xs : List HintLine) �
 front_said x None xs e = absurd (none-some xs e)
 front_said x (Some ys) xs e = (ys, refl, some-same (x ∷ ys) xs e)
 
--- a line that is refused is not accepted with lines after it
+-- a line that is rejected is not accepted with lines after it
 line_stays : (held k : Listed) (said : Said) (rest : Option (List HintLine)) (xs : List HintLine) (fault : LineFault) →
     joined said rest ≡ Some xs → Follows held xs k → refusal held said ≡ Some fault → ⊥
 line_stays held k text.Nothing rest xs fault e f r = none-some fault r
@@ -33,7 +33,7 @@ line_stays held k (text.Line x) rest xs fault e f r =
     none-some fault (ap (option_map cause_of) (sym follow.0) ∙ r)
 line_stays held k text.Malformed rest xs fault e f r = none-some xs e
 
--- a line that is refused after lines that are accepted
+-- a line that is rejected after lines that are accepted
 lines_stay : (before after : List (List ℕ)) (line : List ℕ) (h held k : Listed) (lines xs : List HintLine) (fault : LineFault) →
     said_all before ≡ Some lines → Follows h lines held → said_all (before ++ line ∷ after) ≡ Some xs → Follows h xs k → refusal held (said_by line) ≡ Some fault → ⊥
 lines_stay [] after line h held k lines xs fault e f d g r =

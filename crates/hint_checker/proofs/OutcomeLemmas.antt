@@ -2,7 +2,7 @@
 --     Run h xs k      the lines that a reader gives are accepted after h, and lead to k
 --     run_leads      then they are lines of hints that are accepted
 --     accepts      and so are the lines of the text
---     refuses      a line that is refused, or malformed, after them is one of the text's
+--     refuses      a line that is rejected, or malformed, after them is one of the text's
 use Rattle.std.proofs.Common.{◌≡◌, ℕ, zero, suc, ◌+◌, ◌-◌, ◌^◌, ◌<◌, ◌≤◌, List, [], ◌∷◌, ◌++◌, length, Option, Some, None, Result, Ok, Err, refl, sym, ap, ◌∙◌, subst, arith}
 use Rattle.std.specs.Option.{option_map}
 use Rattle.std.proofs.lemmas.Option.{none-some}
@@ -32,7 +32,7 @@ pub run_more : (h k : Listed) (xs : List (ℕ × Line)) (n : ℕ) (line : Line) 
 run_more h k [] n line e r = (subst (λ s. refusal s (as_hints line) ≡ None) e r, ap (λ s. after_said s (as_hints line)) e)
 run_more h k (x ∷ xs) n line run r = (run.0, run_more (after_said h (as_hints x.1)) k xs n line run.1 r)
 
--- a line of text is refused like the line that is given
+-- a line of text is rejected like the line that is given
 same_refusal : (h : Listed) (line : Line) (s : Said) → SaysAlike (Ok (Some line)) s → refusal h s ≡ refusal h (as_hints line)
 same_refusal h (adds id c hs) s e = ap (refusal h) e
 same_refusal h (deletes ids) s e = ap (refusal h) e.1
@@ -102,7 +102,7 @@ numbered-exact (suc j) n fits below =
     let rest = numbered-exact j (next_line n) (omega arith) below in
     omega (arith, low, rest)
 
--- lines of text are accepted after h, and the one after them is refused
+-- lines of text are accepted after h, and the one after them is rejected
 record StoppedAt (raw : List (List ℕ)) (h : Listed) (n m : ℕ) (fault : LineFault) : Type 0 where
   before : List (List ℕ)
   line : List ℕ
@@ -183,7 +183,7 @@ module _ (h k : Listed) (xs : List (ℕ × Line)) (run : Run h xs k) (bytes : Li
       let a = all_accepted 0 (lines_of bytes) h k (ap (λ (o : Outcome). o.1) e) (subst (λ (ys : List (ℕ × Line)). Run h ys k) (sym (ap (λ (o : Outcome). o.0) e)) run) in
       record { lines = a.lines; said = a.all; follow = a.follow }
 
-  -- a line after them is refused, or malformed
+  -- a line after them is rejected, or malformed
   pub refuses : (later : Outcome) → outcome_of bytes ≡ (xs ++ later.0, later.1) → (m : ℕ) → m < 2 ^ 64 - 1 → (fault : LineFault) → Stops k later.0 later.1 m fault → Refuses h bytes m fault
   refuses later e m below fault stops =
       let s = stopped_at 0 (lines_of bytes) h k xs later.0 later.1 m fault (ap (λ (o : Outcome). o.0) e) (ap (λ (o : Outcome). o.1) e) run stops in

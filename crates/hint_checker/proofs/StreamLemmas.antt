@@ -55,14 +55,14 @@ found : (known left : Known) (over : Bool) (g : List ℕ → Outcome) → Follow
 found known left false g f = record { text = f.taken ++ left_after left; gives = gives_all known left f.taken f.consumed; rest = left_after left; says = f.same (left_after left) }
 found known left true g f = record { text = f.taken; gives = Consumes-whole known left f.taken (λ bs. f.taken ≡ bs) f.consumed f.at_end refl; rest = []; says = f.same }
 
--- an outcome behind these lines
+-- an outcome after these lines
 abbrev behind : List (ℕ × Line) → Outcome → Outcome
 behind xs o = (xs ++ o.0, o.1)
 
 ended : (xs : List (ℕ × Line)) → behind xs ([], Ended) ≡ (xs, Ended)
 ended xs = rw append-nil refl
 
--- after the text so far it goes on
+-- after the text so far it continues
 goes_on : (known left new : Known) (n : ℕ) (over : Bool) (xs : List (ℕ × Line)) (g h : List ℕ → Outcome) → ((more : List ℕ) → behind xs (g more) ≡ h more) →
     Leads known left (outcome_after 0) (λ more. behind xs (outcome_after n more)) → Follows left new n over g → Follows known new 0 over h
 goes_on known left new n false xs g h is e f = leads_on e (record { taken = f.taken; consumed = f.consumed; same = λ more. ap (behind xs) (f.same more) ∙ is more })
@@ -127,7 +127,7 @@ module _ (known left : Known) (number : ℕ) (h k : Listed) where
             (so.text.same b.passed ∙ ap (behind so.lines) (ap (outcome_after number) (sym (append-nil b.passed)) ∙ b.same []) ∙ ended so.lines);
       }
 
-  -- a line that is refused, or malformed
+  -- a line that is rejected, or malformed
   pub so_far_refused : (so : SoFar known left number false h k) (new : Known) (over : Bool) (m : ℕ) (line : Line) → Follows left new number over (λ more. with_line m line (outcome_after m more)) →
       m < 2 ^ 64 - 1 → (fault : LineFault) → IsCause fault (refusal k (as_hints line)) → IsTextRefusal known h (Refused (in_line fault m))
   so_far_refused so new over m line goes below fault cause =

@@ -1,7 +1,7 @@
 -- What a checker of hints holds, and what it answers to a text.
 --     Leads said h k      lines of hints are accepted after h, and lead to k
---     refusal h said      why what a line says is refused
---     Refuses h text n f      line n is the first that is refused, and why
+--     refusal h said      why what a line says is rejected
+--     Refuses h text n f      line n is the first that is rejected, and why
 --     IsRefusalBy refuses f, IsRefusal h text f      a fault of the checker is that of the text, or memory runs out
 --     IsCause f o, in_line f n      a cause of the code, and the fault that it is in line n
 --     AcceptsAfter cs xs text o b      all lines of the text are accepted after a formula's clauses and earlier lines
@@ -31,7 +31,7 @@ cause_of unknown_id = causes.UnknownId
 cause_of not_unit = causes.NotUnit
 cause_of no_conflict = causes.NoConflict
 
--- why what a line says is refused
+-- why what a line says is rejected
 abbrev pub refusal : Listed → Said → Option LineFault
 refusal h text.Nothing = None
 refusal h (text.Line x) = option_map cause_of (line_cause h x)
@@ -43,7 +43,7 @@ after_said h text.Nothing = h
 after_said h (text.Line x) = after_line h x
 after_said h text.Malformed = h
 
--- the lines before line n are accepted after h, and that one is refused
+-- the lines before line n are accepted after h, and that one is rejected
 pub record Refuses (h : Listed) (bytes : List ℕ) (n : ℕ) (fault : LineFault) : Type 0 where
   pub before : List (List ℕ)
   pub line : List ℕ
@@ -56,7 +56,7 @@ pub record Refuses (h : Listed) (bytes : List ℕ) (n : ℕ) (fault : LineFault)
   pub follow : Follows h lines held
   pub refused : refusal held (said_by line) ≡ Some fault
 
--- a fault of the checker, where it is known which line is refused and why
+-- a fault of the checker, where it is known which line is rejected and why
 abbrev pub IsRefusalBy : (ℕ → LineFault → Type 0) → HintFault → Type 0
 IsRefusalBy refuses (faults.Malformed n) = refuses n causes.Malformed
 IsRefusalBy refuses (faults.IdNotGreater n) = refuses n causes.IdNotGreater
@@ -65,11 +65,11 @@ IsRefusalBy refuses (faults.NotUnit n) = refuses n causes.NotUnit
 IsRefusalBy refuses (faults.NoConflict n) = refuses n causes.NoConflict
 IsRefusalBy refuses faults.OutOfMemory = Unit {0}
 
--- a fault of the checker is that of the first line that is refused, or out of memory
+-- a fault of the checker is that of the first line that is rejected, or out of memory
 abbrev pub IsRefusal : Listed → List ℕ → HintFault → Type 0
 IsRefusal h bytes fault = IsRefusalBy (Refuses h bytes) fault
 
--- a cause of the code is why it is refused, or out of memory
+-- a cause of the code is why it is rejected, or out of memory
 abbrev pub IsCause : LineFault → Option LineFault → Type 0
 IsCause causes.Malformed o = o ≡ Some causes.Malformed
 IsCause causes.IdNotGreater o = o ≡ Some causes.IdNotGreater

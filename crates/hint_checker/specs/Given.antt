@@ -1,7 +1,7 @@
 -- What a reader of LRAT gives, as lines of hints.
 --     ids_along hints      the ids of hints, unless one is against
 --     as_hints line, lines_said ls      the line of hints that a line is, or none;  the lines of hints that lines are
---     Stops k ls ending n fault      what comes next is refused, or can't be read
+--     Stops k ls ending n fault      what comes next is rejected, or can't be read
 --     of_text fault      the fault of a text that can't be read
 --     of_bytes fault      that of a text in memory
 --     CollectsIds ids r hints      the ids were collected, or why they were not
@@ -38,7 +38,7 @@ abbrev pub lines_said : List (ℕ × Line) → Option (List HintLine)
 lines_said [] = Some []
 lines_said (x ∷ xs) = joined (as_hints x.1) (lines_said xs)
 
--- what comes next is a line of this number that is refused, or one that can't be read
+-- what comes next is a line of this number that is rejected, or one that can't be read
 abbrev pub Stops : Listed → List (ℕ × Line) → Ending → ℕ → LineFault → Type 0
 Stops k [] Ended n fault = ⊥
 Stops k [] (Faulty number kind) n fault = (n ≡ number) × (fault ≡ Malformed)

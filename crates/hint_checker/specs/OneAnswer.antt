@@ -1,5 +1,5 @@
 -- A text has one answer.
---     StaysAccepted h text k      the text leads to k alone, and is never refused
+--     StaysAccepted h text k      the text leads to k alone, and is never rejected
 --     AnswerIsOne      so it is with each text that is accepted
 use Rattle.std.specs.Prelude.{◌≡◌, ℕ, List}
 use Rattle.sat_rules.specs.HintLines.{Listed}

@@ -25,7 +25,7 @@ abbrev pub in_front : {A : Type 0} → A → Option (List A) → Option (List A)
 in_front x None = None
 in_front x (Some xs) = Some (x ∷ xs)
 
--- nothing stands after a line's last 0
+-- nothing comes after a line's last 0
 abbrev pub ends_here : List (List ℕ) → Option (List ℕ)
 ends_here [] = Some []
 ends_here (w ∷ ws) = None

@@ -8,6 +8,7 @@ use std::alloc::Global;
 use std::process::Abort;
 use test_streams::{FOUR, Shown};
 
+/// The result of a text.
 pub type Answer = Result<bool, HintFault>;
 
 /// A formula, and texts with their answers, one after the other.
@@ -109,7 +110,7 @@ const FAULTS: [(HintFault, &str); 6] = [
     (OutOfMemory, "out of memory"),
 ];
 
-/// A new checker of a formula.
+/// Returns a new checker of a formula.
 pub fn new_checker(rt: &impl Abort, alloc: Global, formula: &str) -> HintChecker {
     let formula = read_formula(alloc, formula.as_bytes()).expect(rt, "a formula");
     HintChecker::new(alloc, &formula).expect(rt, "a checker")
@@ -136,7 +137,7 @@ fn answer_each(rt: &impl Abort, alloc: Global, formula: &str, texts: &[(&str, An
     }
 }
 
-/// And behind this line.
+/// And after this line.
 fn answer_behind(
     rt: &impl Abort,
     alloc: Global,
@@ -149,7 +150,7 @@ fn answer_behind(
     }
 }
 
-/// Behind each of the lines.
+/// After each of the lines.
 fn answer_spelled(rt: &impl Abort, alloc: Global, (formula, lines, texts): Spellings) {
     for line in lines {
         answer_behind(rt, alloc, formula, line, texts);

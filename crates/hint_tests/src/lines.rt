@@ -20,6 +20,7 @@ const LEADING: &str = "5 0 5 0 1 -2 3 0 1 -2 -3 0";
 /// Two pairs of opposite units, and 3.
 const FIVE: &str = "1 0 -1 0 2 0 -2 0 3 0";
 
+/// Lines that are spelled in several ways, each with its results.
 pub const SPELLINGS: [Spellings; 5] = [
     // lines that say nothing: what comes next is answered as if it came first
     (
@@ -73,7 +74,7 @@ pub const SPELLINGS: [Spellings; 5] = [
     ),
 ];
 
-/// Lines whose literals and hints show in what they are refused for, or in the ids after them.
+/// Lines whose literals and hints show in what they are rejected for, or in the ids after them.
 pub const PARTS: [Row; 14] = [
     // a clause and hints may be empty
     ("", &[("1 0 0", Err(NoConflict { line: 1 }))]),

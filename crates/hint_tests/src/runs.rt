@@ -34,7 +34,7 @@ const RUNS: [Row; 4] = [
     ),
 ];
 
-/// As much of the line is written as there is room for.
+/// As much of the line is written as fits.
 fn is_answered(
     rt: &impl Abort,
     alloc: Global,
@@ -78,7 +78,7 @@ fn runs(rt: HostRuntime) {
     }
 }
 
-/// Binary lines over the four clauses, how ids stand in them where that is said, and what is told.
+/// Binary lines over the four clauses, the encoding of their ids if that is given, and the outcome.
 type BinaryRow = (&'static [u8], Option<Ids>, &'static str);
 
 /// 1 by the first two clauses, and the empty clause by it and the others.
@@ -151,7 +151,7 @@ fn formulas_that_fail(rt: HostRuntime) {
     );
 }
 
-/// How a read of hints fails, and what is told: a reader without memory is no failed read.
+/// How a read of hints fails, and the outcome: a reader without memory is no failed read.
 const BROKEN: [(ErrorKind, &str); 2] = [
     (ErrorKind::ConnectionReset, "error reading hints: broken"),
     (ErrorKind::OutOfMemory, "out of memory"),

@@ -1,4 +1,4 @@
-//! Steps over a clause, as a checker tells of them.
+//! Steps over a clause, as a checker emits them.
 use checker_parts::step::{
     CheckedProofStep, CheckedSamplingMode, CheckedUserVar, ResolutionPropagations,
 };
@@ -25,7 +25,7 @@ pub enum Kind {
     GetName,
 }
 
-/// The step of a clause. One on a single literal is on this one, or on its variable.
+/// Returns the step of a clause. One about a single literal is about `one`, or its variable.
 pub fn step_of<'a>(kind: Kind, id: u64, clause: &'a [Lit], one: Lit) -> CheckedProofStep<'a> {
     let var = one.var();
     let redundant = matches!(&kind, Kind::DeriveRedundant(_) | Kind::KeepImplied(_));

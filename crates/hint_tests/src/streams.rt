@@ -56,8 +56,8 @@ fn long_texts(rt: HostRuntime) {
 
 const UNREAD: &str = "error reading hints: broken, then line 0: malformed line";
 
-/// A line that is refused is told though a read after it fails; one that was not read to its end is
-/// not judged.
+/// A line that is rejected is told though a read after it fails; one that was not read to its end
+/// is not judged.
 const BROKEN: [(&str, &str); 4] = [
     ("", UNREAD),
     ("3 0 1 2 0", UNREAD),

@@ -1,4 +1,4 @@
-//! The lines of worked steps, what is refused, and the texts of faults.
+//! The lines of worked steps, what is rejected, and the texts of faults.
 use crate::steps::{Kind, step_of};
 use Kind::{
     Add, Assumptions, Delete, DeleteImplied, DeleteUnit, Derive, DeriveRedundant,
@@ -17,7 +17,7 @@ use test_streams::Shown;
 /// which is none where it is accepted; and the line that is written of it.
 type Row = (Kind, u64, &'static [i64], &'static str, &'static str);
 
-/// What is shown, how many input clauses are announced, and what is told then.
+/// What is shown, how many input clauses are announced, and the outcome.
 type Script = (&'static str, u64, &'static [Row]);
 
 const OUT_OF_RANGE: &str = "clause number out of range";

@@ -11,7 +11,7 @@ use Rattle.lrat_binary.specs.declared.ids.Ids.{Ids}
 use Rattle.lrat_binary.specs.declared.ids.LratForm.{LratForm}
 use Rattle.lrat_binary.specs.declared.ids.LratForm.TheVariants.{Text, Binary}
 
--- ---- the form is told by what is seen
+-- ---- the form is detected from what is seen
 
 or_false : (x y z : Bool) → (x || y) ≡ false → (x || (y && z)) ≡ false
 or_false x y z e = grind arith
@@ -47,7 +47,7 @@ form_is ids n known left seen start f g e is none k s = by known (form_told ids 
     by None h = tt
     by (Some bytes) h = e ∙ is ∙ h
 
--- behind those that stand first
+-- after those that come first
 pub read_behind : {E : Type 0} (front : List ℕ) (a b : Option (List ℕ)) (r : Result ℕ E) (buf : List ℕ) → front ≡ [] → ReadConsumes a b r buf → ReadConsumes (prepend_known front a) (prepend_known front b) r buf
 read_behind front None b (Ok n) buf e p = rw e (tt, λ zero some. at_end b (p.1 zero some))
   where

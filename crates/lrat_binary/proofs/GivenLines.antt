@@ -1,5 +1,5 @@
 -- The lines of a proof that a reader gave so far.
---     HasGiven      these lines, and how the proof goes on
+--     HasGiven      these lines, and how the proof continues
 --     Found      a proof of the reader's bytes that says this
 use Rattle.std.proofs.Common.{◌≡◌, ℕ, Bool, true, false, List, [], ◌∷◌, ◌++◌, Option, Some, None, Result, Ok, Err, refl, sym, ap, ◌∙◌, append_assoc, append-nil}
 use Rattle.std.specs.Prelude.{IfSome}
@@ -84,7 +84,7 @@ module _ (form : LratForm) (known left : Known) where
   found true g e = record { text = e.taken; gives = Consumes-whole known left e.taken (λ bs. e.taken ≡ bs) e.consumed e.at_end refl; rest = []; says = e.same }
 
   module _ (ls : List (ℕ × Line)) where
-    -- after the proof so far it goes on
+    -- after the proof so far it continues
     pub goes_on : (n : ℕ) (new : Known) (over : Bool) (g : List ℕ → Outcome) →
         Goes form known left 0 false (λ more. with_lines ls (lines_after form n more)) → Goes form left new n over g →
         Goes form known new 0 over (λ more. with_lines ls (g more))

@@ -1,5 +1,5 @@
 -- What a reader of either form gave, said in one way.
---     Goes      after this many lines the proof goes on so, or has ended so
+--     Goes      after this many lines the proof continues so, or has ended so
 --     IsExact form n      the number of a line of text is exact
 use Rattle.std.proofs.Common.{◌≡◌, ℕ, ◌-◌, ◌^◌, ◌<◌, Bool, true, false, List, [], Option, Some, None, Result, Ok, Err, refl, ap, arith}
 use Rattle.std.proofs.lemmas.Bool.{false_from_ne_true}

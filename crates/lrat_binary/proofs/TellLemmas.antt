@@ -1,4 +1,4 @@
--- What the first bytes tell of the ids.
+-- What the first bytes show of the ids.
 use Rattle.std.proofs.Common.{◌≡◌, ℕ, suc, ◌+◌, ◌<◌, ◌≤◌, Bool, true, List, ◌∷◌, length, get_or, drop, refl, sym, ap, ◌∙◌, add-one, drop-cons}
 use Rattle.std.proofs.lemmas.List.{drop_all}
 use Rattle.lrat_binary.specs.Telling.{are_doubled, seen_at}
@@ -6,7 +6,7 @@ use Rattle.lrat_binary.specs.declared.telling.Seen.{Seen}
 use Rattle.lrat_binary.specs.declared.telling.Seen.TheVariants.{Later, Told}
 use Rattle.lrat_binary.specs.declared.telling.Sight.{Sight}
 
--- what a byte told, and the bytes after it
+-- what a byte showed, and the bytes after it
 then_doubled : ℕ → List ℕ → Seen → Bool
 then_doubled next bs s = elim s [
   | Later later ↦ are_doubled next later bs

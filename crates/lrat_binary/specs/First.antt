@@ -1,7 +1,7 @@
 -- The first bytes of a proof, which are seen before it is read.
---     bytes_in      those that stand first and were not given, and then those of the reader
+--     bytes_in      those that come first and were not given, and then those of the reader
 --     IsSeen wanted seen left      this many bytes were seen, or the input has ended
---     SeesFirst seen left      enough of them to tell the form
+--     SeesFirst seen left      enough of them to detect the form
 use Rattle.std.specs.Prelude.{◌≡◌, ℕ, ◌≤◌, ◌⊎◌, true, List, drop, length, Option}
 use Rattle.std.specs.Io.KnownBytes.{IsAtEnd, prepend_known}
 use Rattle.lrat_binary.specs.Telling.{begins_as_binary}

@@ -22,7 +22,7 @@ use Rattle.lrat_binary.specs.Kinds.{line_kind}
 use Rattle.lrat_binary.specs.Lines.{binary_after}
 use Rattle.lrat_binary.specs.Taking.{Breaks, Fails}
 
--- the bytes that are still to come, where the reader beneath tells them
+-- the bytes that are still to come, if the reader beneath says them
 abbrev pub bytes_left : {R : Type 0} → (R → Option (List ℕ)) → BinaryReader R → Option (List ℕ)
 bytes_left remaining r = unread_bytes remaining r.bytes
 
@@ -38,7 +38,7 @@ has_ended r = r.ended
 abbrev pub line_number : {R : Type 0} → BinaryReader R → ℕ
 line_number r = r.number
 
--- the way in which ids stand
+-- the encoding of ids
 abbrev pub ids_of : {R : Type 0} → BinaryReader R → Ids
 ids_of r = r.ids
 

@@ -1,6 +1,6 @@
 -- What the numbers of binary lines say: an item, none at the 0 that ends a list, or a fault.
 --     lit_said v, hint_said v      a literal, by its code;  a hint:  twice their number, and 1 more where it is negative
---     id_said ids v      an id of a line or of a deletion, in the way in which they stand
+--     id_said ids v      an id of a line or of a deletion, in the encoding of ids
 use Rattle.std.specs.Prelude.{ℕ, ◌-◌, ◌/◌, ◌%◌, ◌^◌, Option, Some, None, Result, Ok, Err, nat_lt, ◌==◌, if◌then◌else◌}
 use Rattle.drat_text.specs.declared.fault.DratKind.{DratKind}
 use Rattle.drat_text.specs.declared.fault.DratKind.TheVariants.{Malformed, NumberTooLarge}

@@ -30,7 +30,7 @@ pub data Place : Type 0 where
   Within : Slot → Place
   InNumber : Slot → ℕ → ℕ → Place
 
--- what one byte does: the reading goes on, a line ends, or nothing more is read
+-- what one byte does: the reading continues, a line ends, or nothing more is read
 pub data After : Type 0 where
   Goes : Place → After
   Gives : Line → After

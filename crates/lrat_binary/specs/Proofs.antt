@@ -27,7 +27,7 @@ lines_after (forms.Binary ids) before bytes = binary_after ids before bytes
 abbrev pub outcome_in : LratForm → List ℕ → Outcome
 outcome_in form bytes = lines_after form 0 bytes
 
--- an outcome behind these lines
+-- an outcome after these lines
 abbrev pub with_lines : List (ℕ × Line) → Outcome → Outcome
 with_lines ls o = (ls ++ o.0, o.1)
 
@@ -41,7 +41,7 @@ BeginsWith says known ls = (o : Outcome) × IfSome known (λ bytes. says bytes �
 
 -- ---- a reader
 
--- the bytes that are still to come, where the reader beneath tells them
+-- the bytes that are still to come, if the reader beneath says them
 abbrev pub bytes_left : {R : Type 0} → (R → Option (List ℕ)) → LratReader R → Option (List ℕ)
 bytes_left remaining (Text r) = texts.bytes_left remaining r
 bytes_left remaining (Binary r) = binaries.bytes_left remaining r

@@ -1,5 +1,5 @@
--- How the first bytes of a proof tell its form. No verdict rests on it: whatever is told, the lines that are read so are judged.
---     form_of ids n bytes      of a proof after a formula of n clauses; the form of its ids is told where it is not given
+-- The form of a proof, detected from its first bytes. No verdict relies on it: whatever is detected, the lines that are read so are judged.
+--     form_of ids n bytes      of a proof after a formula of n clauses; the form of its ids is detected where it is not given
 --     told_ids n first      doubled, where every id is even, and no line has the id n + 1
 use Rattle.std.specs.Prelude.{ℕ, ◌+◌, ◌-◌, ◌/◌, ◌%◌, ◌^◌, min, Bool, true, false, not, ◌&&◌, ◌||◌, ◌==◌, nat_lt, if◌then◌else◌, List, [], ◌∷◌, take, Option, Some, None}
 use Rattle.std.specs.List.{list_all}
@@ -95,7 +95,7 @@ told_before next first = if are_doubled next Letter first then Doubled else Plai
 abbrev pub told_ids : ℕ → List ℕ → Ids
 told_ids n first = told_before (next_id n) first
 
--- the ids that are given, or else those that are told
+-- the ids that are given, or else those that are detected
 abbrev pub ids_by : Option Ids → ℕ → List ℕ → Ids
 ids_by (Some ids) n first = ids
 ids_by None n first = told_ids n first

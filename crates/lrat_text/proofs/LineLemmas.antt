@@ -29,7 +29,7 @@ said_then number said more = line_then number said (outcome_after number more)
 lines_of-lf : (line more : List ℕ) → IsOpen line → lines_of ((line ++ 10 ∷ []) ++ more) ≡ line ∷ lines_of more
 lines_of-lf line more is_open = ap lines_of (append_assoc line (10 ∷ []) more) ∙ slice_split_at is_lf line 10 more is_open refl
 
--- it is no last line, since the text goes on after it, if only by an empty line
+-- it is no last line, since the text continues after it, if only by an empty line
 short_inside : (before : ℕ) (line more : List ℕ) → lines_from before (line ∷ lines_of more) ≡ said_then (next_line before) (says Malformed (words_of line)) more
 short_inside before line more =
     let e = slice_split-front is_lf more in
@@ -78,7 +78,7 @@ ends_on {a} {b} {c} p q = record {
   same = p.same q.taken ∙ q.same;
 }
 
--- a line after those that were read, which stand before the outcome so
+-- a line after those that were read, which come before the outcome so
 pub follows_under : {a b : Known} (c : Known) (before number : ℕ) (over : Bool) (h : Outcome → Outcome) (g : List ℕ → Outcome) →
     Leads a b (outcome_after before) (λ more. h (outcome_after number more)) → Follows b c number over g → Follows a c before over (λ more. h (g more))
 follows_under c before number false h g p q = leads_on p (record { taken = q.taken; consumed = q.consumed; same = λ more. ap h (q.same more) })

@@ -60,7 +60,7 @@ blank_passed bytes p e =
       shorter = omega (arith, ap (λ (bs : List ℕ). length bs) all, length-drop 1 bytes, some);
     }
 
--- the word in front goes to the first blank or the LF
+-- the word in front extends to the first blank or the LF
 pub words_in-first : (bytes : List ℕ) (n : ℕ) → 0 < n → n < length bytes → ((k : ℕ) → k < n → ends_word (get_or bytes k 0) ≡ false) → ends_word (get_or bytes n 0) ≡ true
     → words_in bytes ≡ take n bytes ∷ words_in (drop n bytes)
 words_in-first (b ∷ bytes) (suc n) some lt h e =
@@ -78,12 +78,12 @@ words_in-word bytes word n same some lt h e =
     sym same ∙ words_in-first word n some lt h e
     ∙ ap (λ (rest : List ℕ). take n word ∷ words_in rest) (sym (take_all (length word - n) (drop n word) (omega (arith, length-drop n word))))
 
--- an LF that is no blank stands alone
+-- an LF that is no blank is alone
 lf_alone : (bytes line : List ℕ) → bytes ≡ line ++ 10 ∷ [] → IsOpen line → is_lf (get_or bytes 0 0) ≡ true → bytes ≡ 10 ∷ []
 lf_alone bytes [] e is_open lf = e
 lf_alone bytes (b ∷ line) e is_open lf = let first = rw e at lf in let other = open_first b line is_open in absurd cc
 
--- a line without a blank in front has no word where an end of a word stands there
+-- a line without a blank in front has no word where an end of a word is there
 pub no_words : (bytes : List ℕ) → IsLine bytes → is_blank (get_or bytes 0 0) ≡ false → ends_word (get_or bytes 0 0) ≡ true → words_in bytes ≡ []
 no_words bytes p blank e = ap words_in (lf_alone bytes p.line p.is p.is_open (rw blank at e))
 

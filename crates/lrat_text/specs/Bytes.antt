@@ -21,6 +21,6 @@ pub record IsLine (bytes : List ℕ) : Type 0 where
 abbrev pub ends_word : ℕ → Bool
 ends_word b = is_blank b || is_lf b
 
--- the words of bytes: what stands between blanks and LFs
+-- the words of bytes: what is between blanks and LFs
 abbrev pub words_in : List ℕ → List (List ℕ)
 words_in bytes = filter has_bytes (slice_split ends_word bytes)

@@ -28,7 +28,7 @@ abbrev pub view : LratLine → Line
 view (lines.Add id clause hints) = adds id clause.now (map hint_of hints.now)
 view (lines.Delete ids) = deletes ids.now
 
--- the bytes that are still to come, where the reader beneath tells them
+-- the bytes that are still to come, if the reader beneath says them
 abbrev pub bytes_left : {R : Type 0} → (R → Option (List ℕ)) → LineReader R → Option (List ℕ)
 bytes_left remaining r = unread_lines remaining r.lines
 
@@ -56,7 +56,7 @@ IsReadError r e = IsErrorOf r.lines.source e
 abbrev pub rest_of : {R : Type 0} → LineReader R → List ℕ → Outcome
 rest_of r more = outcome_after (line_number r) more
 
--- after the lines that old has read the text goes on so, up to where new stands
+-- after the lines that old has read the text continues so, up to the position of new
 abbrev pub Reads : {R : Type 0} → (R → Option (List ℕ)) → LineReader R → LineReader R → Bool →
     (List ℕ → Outcome) → Type 0
 Reads remaining old new over rest =

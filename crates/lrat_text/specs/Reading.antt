@@ -10,7 +10,7 @@ use Rattle.lrat_text.specs.declared.row.Head.TheVariants as heads
 use Rattle.lrat_text.specs.declared.row.Row.{Row}
 use Rattle.lrat_text.specs.Grammar.{hint_of}
 
--- the words say what was answered, seen so, unless memory was wanted
+-- the words say what was answered, seen so, unless memory ran out
 abbrev pub ReadsAs : {X A : Type 0} → (X → A) → Result A LineKind → Result X Stop → Type 0
 ReadsAs seen said (Ok x) = said ≡ Ok (seen x)
 ReadsAs seen said (Err (stops.Wrong kind)) = said ≡ Err kind

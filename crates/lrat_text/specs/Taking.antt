@@ -17,7 +17,7 @@ pub record EndsAll (old new : Option (List ℕ)) (f g : List ℕ → Outcome) : 
   pub at_end : IsAtEnd new
   pub same : f taken ≡ g []
 
--- after the line of number `before` the text goes on so; or it has ended, and nothing is left
+-- after the line of number `before` the text continues so; or it has ended, and nothing is left
 abbrev pub Follows : Option (List ℕ) → Option (List ℕ) → ℕ → Bool → (List ℕ → Outcome) → Type 0
 Follows old new before false rest = Leads old new (outcome_after before) rest
 Follows old new before true rest = EndsAll old new (outcome_after before) rest

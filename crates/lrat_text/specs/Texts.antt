@@ -16,11 +16,11 @@ pub data Ending : Type 0 where
 abbrev pub Outcome : Type 0
 Outcome = List (ℕ × Line) × Ending
 
--- an outcome behind this line
+-- an outcome after this line
 abbrev pub with_line : ℕ → Line → Outcome → Outcome
 with_line number line o = ((number, line) ∷ o.0, o.1)
 
--- an outcome behind the line of this number, which says nothing, or a line, or ends it by a fault
+-- an outcome after the line of this number, which says nothing, or a line, or ends it by a fault
 abbrev pub line_then : ℕ → Result (Option Line) LineKind → Outcome → Outcome
 line_then number (Ok None) later = later
 line_then number (Ok (Some line)) later = with_line number line later

@@ -1,9 +1,9 @@
 -- Runs of an answer after a formula.
 --     IsCheckRun cnf answer r      the verdict on the two texts, or why there is none
---     IsRefusedRun r      the answer or the formula was refused
+--     IsRefusedRun r      the answer or the formula was rejected
 --     IsUnwritten r      the verdict's line was not written whole
 --     BeginsLine cnf answer old new      what was written then
---     RunTellsLie cnf r told      this is told of the formula's header
+--     RunTellsLie cnf r told      this is reported of the formula's header
 use Rattle.std.specs.Prelude.{◌≡◌, ℕ, List, Option, Some, None, Result, Ok, Err}
 use Rattle.std.specs.Option.{option_map}
 use Rattle.sat_formula.specs.declared.counts.LyingHeader.{LyingHeader}
@@ -44,13 +44,13 @@ IsCheckRun cnf answer (Err (Formula fault)) = IsAnswered cnf answer fault
 IsCheckRun cnf answer (Err (Cut cut)) = (verdict : Verdict) × IsShown cnf answer verdict (Some cut)
 IsCheckRun cnf answer (Err (Write cause)) = (verdict : Verdict) × IsShown cnf answer verdict None
 
--- the answer or the formula was refused
+-- the answer or the formula was rejected
 abbrev pub IsRefusedRun : Result Verdict RunFault → Type 0
 IsRefusedRun (Ok verdict) = ⊥
 IsRefusedRun (Err (Write cause)) = ⊥
 IsRefusedRun r = Unit {0}
 
--- the verdict stands, and its line was not written whole
+-- there is a verdict, and its line was not written whole
 abbrev pub IsUnwritten : Result Verdict RunFault → Type 0
 IsUnwritten (Err (Write cause)) = Unit {0}
 IsUnwritten r = ⊥
@@ -61,7 +61,7 @@ pub record BeginsLine (cnf answer old new : Option (List ℕ)) : Type 0 where
   pub shown : IsShown cnf answer verdict None
   pub begins : AppendsBeginning old new (shown_line verdict)
 
--- what the header lies about, where the formula was read whole; else nothing
+-- the mismatch of the header, if the formula was read whole; else nothing
 abbrev pub RunTellsLie : Option (List ℕ) → Result Verdict RunFault → Option LyingHeader → Type 0
 RunTellsLie cnf (Err (Answer fault)) told = told ≡ None
 RunTellsLie cnf (Err (Formula fault)) told = told ≡ None

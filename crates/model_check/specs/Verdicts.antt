@@ -1,6 +1,6 @@
 -- Verdicts on a set of literals and a formula, and their lines.
---     IsVerdict listed formula lines v      this is so of the set and the formula, whose clauses end on these lines
---     IsJudged text listed v cut      the text is a formula, this is so of it, and this is missing of it
+--     IsVerdict listed formula lines v      this holds of the set and the formula, whose clauses end on these lines
+--     IsJudged text listed v cut      the text is a formula, this holds of it, and this is missing of it
 --     FailsText text fault      the text is none
 use Rattle.std.specs.Prelude.{◌≡◌, ℕ, ◌+◌, Bool, true, false, List, ◌∷◌, ◌++◌, length, Option, codes}
 use Rattle.std.specs.Option.{option_map}

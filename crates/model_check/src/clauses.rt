@@ -23,6 +23,10 @@ pub struct Judged {
 
 /// Reads a whole formula, a clause at a time, and returns whether each has one of the literals. The
 /// verdict is that on the clauses that are there, also if some are missing.
+///
+/// # Errors
+///
+/// The first fault of the text, a failed read or out of memory.
 pub fn judge<F: Read + Drop>(
     alloc: Global,
     cnf: F,

@@ -84,7 +84,7 @@ const FAULTS: [Row; 25] = [
 ];
 
 /// An answer, and the number of the read that fails. It is not the end of the answer, and a fault
-/// before it is told.
+/// before it is returned.
 type BrokenRow = (&'static [u8], usize, &'static str);
 
 const BROKEN: [BrokenRow; 3] = [

@@ -31,7 +31,7 @@ const ANSWERS: [(&str, &str); 10] = [
     ("1 -2 3 0\n1", "answer: line 2: a number after the last one"),
 ];
 
-/// Other formulas, each with an answer and what is told. A formula is read to its end.
+/// Other formulas, each with an answer and the outcome. A formula is read to its end.
 const RUNS: [(&str, &str, &str); 3] = [
     ("p cnf 0 0", "0", VERIFIED),
     ("1 0\n2 x 0", "-1 0", "formula: line 2: bad number"),
@@ -64,8 +64,8 @@ fn unmet_clause(answer: &Result<Verdict, RunFault>) -> (u64, u64) {
     }
 }
 
-/// What is told of an answer, and which clause it does not meet. As much of the line is written as
-/// there is room for.
+/// The outcome of an answer, and which clause it does not satisfy. As much of the line is written
+/// as there is room for.
 fn is_answered(
     rt: &impl Abort,
     alloc: Global,

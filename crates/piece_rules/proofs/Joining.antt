@@ -1,4 +1,4 @@
--- An assignment goes along the pieces, up to a list that has none.
+-- An assignment is carried along the pieces, up to a list that has none.
 use Rattle.std.proofs.Common.{◌≡◌, ℕ, Bool, true, List, [], ◌∷◌, Some, refl, sym, ◌∙◌, arith}
 use Rattle.std.proofs.lemmas.Bool.{false≢true, false_from_ne_true}
 use Rattle.sat_rules.specs.Clauses.{all_true, clause_true}

@@ -11,7 +11,7 @@ use Rattle.lrat_rules.specs.Stores.{find, formula_store}
 abbrev pub Carries : List (List ℕ) → List (List ℕ) → Type 0
 Carries cs ds = (a : ℕ → Bool) → all_true a cs ≡ true → (b : ℕ → Bool) × (all_true b ds ≡ true)
 
--- where the lines are accepted, and the ids name the wanted clauses after them
+-- where the lines are accepted, and the ids name the target clauses after them
 abbrev pub PieceCarries : Type 0
 PieceCarries = (formula wanted : List (List ℕ)) (ids : List ℕ) (st : List Item) (ls : List Line)
     → run (formula_store formula) ls ≡ Some st → NamedBy (find st) ids wanted

@@ -16,7 +16,7 @@ whole = (pos 1 ∷ pos 2 ∷ []) ∷ (pos 1 ∷ neg 2 ∷ []) ∷ (neg 1 ∷ pos
 abbrev pub first : List Line
 first = adds 5 (pos 1 ∷ []) (along 1 ∷ along 2 ∷ []) ∷ deletes (1 ∷ 2 ∷ []) ∷ []
 
--- what lives behind these lines, in another order
+-- what lives after these lines, in another order
 abbrev pub bound : List (List ℕ)
 bound = (neg 1 ∷ pos 2 ∷ []) ∷ (neg 1 ∷ neg 2 ∷ []) ∷ (pos 1 ∷ []) ∷ []
 
@@ -33,7 +33,7 @@ pub record PieceRows : Type 0 where
   pub ran : run (formula_store whole) first ≡ Some behind
   pub named : NamedBy (find behind) (3 ∷ 4 ∷ 5 ∷ []) bound
   pub chain : Chain whole (bound ∷ [])
-  -- the last list has to be refuted: a part of it can be satisfied
+  -- the last list must be refuted: a part of it can be satisfied
   pub open_end : Chain whole (((pos 1 ∷ []) ∷ []) ∷ []) → ⊥
   -- an id that was deleted names nothing, one more or less is wrong, and so is another order
   pub deleted : NamedBy (find behind) (1 ∷ []) ((pos 1 ∷ pos 2 ∷ []) ∷ []) → ⊥

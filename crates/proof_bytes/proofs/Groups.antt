@@ -93,7 +93,7 @@ module _ (xs : List ℕ) (bytes : (i : ℕ) → get_or xs i 0 < 256) where
         | inr here ↦ let same : i ≡ j = omega arith in rw same at t.high
       ]
 
-  -- what the first groups stand for
+  -- what the first groups denote
   abbrev low : ℕ → ℕ
   low zero = get_or xs 0 0 - 128
   low (suc i) = low i + 2 ^ (7 * i + 7) * (get_or xs (suc i) 0 - 128)

@@ -40,7 +40,7 @@ abbrev pub is_last : {R : Type 0} → Result Head Stop → BodyReader R → Bool
 is_last (Ok head) r = is_end (step_of head r)
 is_last (Err e) r = true
 
--- the bytes that are still to come, where the reader beneath tells them
+-- the bytes that are still to come, if the reader beneath says them
 abbrev pub unread_body : {R : Type 0} → (R → Option (List ℕ)) → BodyReader R → Option (List ℕ)
 unread_body remaining r = unread_fields remaining r.fields
 

@@ -1,4 +1,4 @@
--- Worked rows of the definitions, as bytes and what they stand for.
+-- Worked rows of the definitions, as bytes and what they denote.
 --     NumberRows      numbers and their bytes, both ways
 --     StepRows      the first steps of texts of version 1, whole and hostile
 --     WidthRows      texts of version 2
@@ -106,7 +106,7 @@ pub record WidthRows : Type 0 where
       at_clause false [] (0x66D7FE5A834B8C15 ∷ 0xC49F749D03BD087E ∷ []) ∷ end_proof ∷ [])
       (Bytes 64, [])
 
--- a writer of version 2: the mark stands once, and a hash of ten bits is refused at width 9
+-- a writer of version 2: the mark occurs once, and a hash of ten bits is rejected at width 9
 pub record WriterRows : Type 0 where
   pub first : text_2 (change_hash_bits 9 ∷ []) ≡ 0x00 ∷ 0x02 ∷ 0x09 ∷ 0x09 ∷ []
   pub refused : all_fit (writing (written_after (change_hash_bits 9 ∷ [])))

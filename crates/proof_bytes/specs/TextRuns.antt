@@ -12,7 +12,7 @@ use Rattle.proof_bytes.specs.Reading.{Fault}
 use Rattle.proof_bytes.specs.Taking.{IsBytes}
 use Rattle.proof_bytes.specs.Texts.{Place, start_of, next_of}
 
--- how a run over a text ends: as asked, with a refused step, or with the text's fault
+-- how a run over a text ends: as asked, with a rejected step, or with the text's fault
 abbrev pub Answer : Type 0
 Answer = Option (Cause ⊎ Fault)
 
@@ -22,7 +22,7 @@ RunsTo s here [] t there = (s ≡ t) × (here ≡ there)
 RunsTo s here (step ∷ steps) t there = (next : Place) × (move next_of s here ≡ inl (step, next))
     × RunsTo (attempt s step).after next steps t there
 
--- this is the text of a reader: all its bytes where it tells them, else some bytes
+-- this is the text of a reader: all its bytes if it says them, else some bytes
 abbrev pub IsTextOf : Option (List ℕ) → List ℕ → Type 0
 IsTextOf None text = IsBytes text
 IsTextOf (Some known) text = known ≡ text

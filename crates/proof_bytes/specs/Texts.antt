@@ -29,7 +29,7 @@ step_or_fault (Err fault) = inr fault
 unfoldable pub next_of : Place → (Step × Place) ⊎ Fault
 next_of place = step_or_fault (next_at place.0 place.1)
 
--- from here on these steps are read, and then the text stands there
+-- from here on these steps are read, and then the text is there
 abbrev pub ReadsTo : Place → List Step → Place → Type 0
 ReadsTo here [] there = here ≡ there
 ReadsTo here (step ∷ steps) there = (next : Place) × (next_of here ≡ inl (step, next))

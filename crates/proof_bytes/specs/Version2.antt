@@ -1,5 +1,5 @@
 -- Writing a text of version 2.
---     writing, mark      how the next step is spelled, and what stands before it
+--     writing, mark      how the next step is spelled, and what comes before it
 --     text_2, written_after      the whole text of these steps, and how the next one is spelled after it
 use Rattle.std.specs.Prelude.{ℕ, List, [], ◌∷◌}
 use Rattle.checker_rules.specs.Step.{Step}
@@ -24,7 +24,7 @@ abbrev pub text_2 : List Step → List ℕ
 text_2 [] = []
 text_2 (step ∷ steps) = 0 ∷ 2 ∷ text (formats.Bytes 64) (step ∷ steps)
 
--- how a writer of these steps goes on
+-- how a writer of these steps continues
 abbrev pub written_after : List Step → Format
 written_after [] = formats.Start
 written_after (step ∷ steps) = after_all (formats.Bytes 64) (step ∷ steps)

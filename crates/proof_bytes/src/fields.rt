@@ -197,6 +197,7 @@ impl<R: Read> Fields<R> {
         }
     }
 
+    /// Reads a hash one byte after the other.
     fn hash_by_bytes(&mut self, format: Format) -> Result<ClauseHash, Stop>
         requires { IsFormat format }
         ensures { Reads R.remaining (λ n. n) self.old self.new result (hash_at format) }
@@ -207,6 +208,7 @@ impl<R: Read> Fields<R> {
         }
     }
 
+    /// Reads a list of literals, in place of those in `into`.
     pub(crate) fn lits(&mut self, into: &mut Vec<Lit>) -> Result<(), Stop>
         ensures { Reads R.remaining (λ _. into.new.items) self.old self.new result lits_at }
     {
@@ -222,6 +224,7 @@ impl<R: Read> Fields<R> {
         Ok(())
     }
 
+    /// Reads a list of hashes, in place of those in `into`.
     pub(crate) fn hashes(&mut self, into: &mut Vec<ClauseHash>, format: Format) -> Result<(), Stop>
         requires { IsFormat format }
         ensures { Reads R.remaining (λ _. into.new.items) self.old self.new result
@@ -239,6 +242,7 @@ impl<R: Read> Fields<R> {
         Ok(())
     }
 
+    /// Reads a list of pairs of a literal and a hash, in place of those in `into`.
     pub(crate) fn units(
         &mut self,
         into: &mut Vec<(Lit, ClauseHash)>,

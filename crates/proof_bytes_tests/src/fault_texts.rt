@@ -10,6 +10,7 @@ const TEXTS: [(MalformedStep, &str); 3] = [
     (MalformedStep::OutOfRange, "value out of range"),
 ];
 
+/// Faults have these texts.
 pub fn have_texts(rt: &impl Abort, alloc: Global) {
     for (kind, text) in &TEXTS {
         assert_eq!(rt; Shown::of(alloc, kind).text(), *text);

@@ -12,6 +12,7 @@ const HASHES: [(usize, u64); 5] = [
     (1 << 29, 0xCE20_C93C_1F4A_7C15),
 ];
 
+/// Codes and literals have these hashes.
 pub fn are_hashed(rt: &impl Abort) {
     for (code, hash) in &HASHES {
         assert_eq!(rt; lit_code_hash(*code), *hash);

@@ -46,8 +46,8 @@ fn read_all(
     Ok((100, None, None))
 }
 
-/// Whether a text gives this many steps, shown as bytes of version 1, then this fault, and then the
-/// end.
+/// Returns whether a text gives this many steps, shown as bytes of version 1, then this fault, and
+/// then the end.
 pub fn gives(
     alloc: Global,
     text: Pieces<'_>,

@@ -72,8 +72,8 @@ const TEXTS: [Row; 41] = [
     ),
 ];
 
-/// Whether a text gives these steps, then this fault, and then the end; with all bytes at once, and
-/// with one a read.
+/// Returns whether a text gives these steps, then this fault, and then the end; with all bytes at
+/// once, and with one a read.
 pub fn is_read(
     alloc: Global,
     text: &[u8],
@@ -94,6 +94,7 @@ fn hold(rt: &impl Abort, alloc: Global, rows: &[Row]) -> Result<(), AllocError> 
     Ok(())
 }
 
+/// Each text gives its steps and its fault.
 pub fn are_read(rt: &impl Abort, alloc: Global) -> Result<(), AllocError> {
     hold(rt, alloc, &TEXTS)
 }
@@ -124,7 +125,7 @@ const STEPS_WITHIN: [(u32, usize); 16] = [
     (3, 15),
 ];
 
-/// A text that ends after this many bytes, and the read after this many that fails.
+/// Cuts a text off after each number of bytes, and lets the read after each number fail.
 pub fn are_cut(rt: &impl Abort, alloc: Global) -> Result<(), AllocError> {
     for (len, (count, end)) in STEPS_WITHIN.iter().enumerate() {
         let steps = &TWO_CHECKS[..(*end).min(16)];

@@ -57,6 +57,7 @@ fn hold(rt: &impl Abort, alloc: Global, rows: &[(u64, &[u8])]) -> Result<(), All
     Ok(())
 }
 
+/// Numbers have these spellings.
 pub fn numbers(rt: &impl Abort, alloc: Global) -> Result<(), AllocError> {
     hold(rt, alloc, &NUMBERS)
 }
@@ -161,7 +162,8 @@ fn write_kinds(
     Ok(())
 }
 
-/// Over the first and the last variable, and the least and the greatest literal.
+/// Writes a step of each kind over the first and the last variable, and the least and the greatest
+/// literal.
 pub fn each_kind(rt: &impl Abort, alloc: Global) -> Result<(), Fail> {
     let first = Var::from_index(0).ok_or("no variable")?;
     let last = Var::from_index(Var::MAX_COUNT - 1).ok_or("no variable")?;
@@ -261,6 +263,7 @@ fn are_written(
     Ok(())
 }
 
+/// A writer of version 2 writes the mark first, and hashes of the width in force.
 pub fn writer_of_version_2(rt: &impl Abort, alloc: Global) -> Result<(), Fail> {
     let lit = Lit::from_code(2).ok_or("no literal")?;
     are_written(rt, alloc, lit, &TWO_BYTES, &TEXT_OF_TWO_BYTES)?;

@@ -11,7 +11,7 @@ pub length-cut : (lengths lits : List ℕ) → length (cut lengths lits) ≡ len
 length-cut [] lits = refl
 length-cut (n ∷ ns) lits = ap suc (length-cut ns (drop n lits))
 
--- one more clause behind all literals
+-- one more clause after all literals
 pub cut-append : (lengths lits clause : List ℕ) → sum lengths ≡ length lits → cut (lengths ++ length clause ∷ []) (lits ++ clause) ≡ cut lengths lits ++ clause ∷ []
 cut-append [] [] clause e = ap (λ (c : List ℕ). c ∷ []) (take-length clause)
 cut-append [] (l ∷ lits) clause e = let none : 0 ≡ suc (length lits) = e in absurd (omega arith)

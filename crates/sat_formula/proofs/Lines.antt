@@ -24,7 +24,7 @@ use Rattle.sat_formula.proofs.Steps.{word_blank, word_number, number_blank, numb
 -- ---- a list cut at bytes: the part that is open, and the others
 
 module _ (ends : ℕ → Bool) where
-  -- what stands before the first byte that ends a part
+  -- what comes before the first byte that ends a part
   abbrev pub front : List ℕ → List ℕ
   front [] = []
   front (b ∷ bs) = cond (ends b) [] (b ∷ front bs)
@@ -50,7 +50,7 @@ two_counts = is_digits ∷ is_digits ∷ []
 abbrev cnf_and_counts : List (List ℕ → Bool)
 cnf_and_counts = (λ w. bytes_eq w (codes "cnf")) ∷ two_counts
 
--- what has to come after what was read of a header: the part that is open, and the others
+-- what must come after what was read of a header: the part that is open, and the others
 abbrev comes_after : Header → List ℕ → List (List ℕ) → Bool
 comes_after headers.P w ws = bytes_eq w [] && all_pass cnf_and_counts (filter has_bytes ws)
 comes_after headers.AfterP w ws = all_pass cnf_and_counts (filter has_bytes (w ∷ ws))
@@ -79,7 +79,7 @@ module _ (b : ℕ) (w : List ℕ) (ws : List (List ℕ)) where
   comes_after-blank headers.Bad e = refl
   comes_after-blank _ e = rw e refl
 
-  -- the part goes on with a byte that passes a test, or the header is bad
+  -- the part continues with a byte that passes a test, or the header is bad
   goes_on : (h : Header) (t x y : Bool) → comes_after h w ws ≡ (x && y) → comes_after (cond t h headers.Bad) w ws ≡ ((t && x) && y)
   goes_on h true x y e = e
   goes_on h false x y e = refl
@@ -159,7 +159,7 @@ number-fold b bytes =
 abbrev line_by : ℕ → Bool → List ℕ → List ℕ → (Bool → List ℕ → Outcome) → Outcome
 line_by line seen begun bytes next = line_then (kind_of_line bytes) line seen begun bytes next
 
--- what the rest of a line gives at each place in it; `next` tells what follows
+-- what the rest of a line gives at each place in it; `next` is what follows
 abbrev rest_of_line : Place → ℕ → Bool → List ℕ → List ℕ → (Bool → List ℕ → Outcome) → Outcome
 rest_of_line Start line seen begun bytes next = line_by line seen begun bytes next
 rest_of_line Between line seen begun bytes next = tokens_from line begun (words_of bytes) (next true)

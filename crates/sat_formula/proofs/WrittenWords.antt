@@ -58,7 +58,7 @@ lines_of-line line text in_line = slice_split_at is_lf line 10 text (All-weaker 
 
 -- ---- numbers
 
--- one or more digits of this value; their value is told before any bytes after them
+-- one or more digits of this value; their value is known before any bytes after them
 pub record AreDigitsOf (n : ℕ) (digits : List ℕ) : Type 0 where
   pub first : ℕ
   pub others : List ℕ

@@ -37,7 +37,7 @@ abbrev pub is_lie : Counts → Counts → Bool
 is_lie said counts =
     nat_lt said.variables counts.variables || not (said.clauses == counts.clauses)
 
--- a header that lies
+-- a header that does not match
 abbrev pub lie_of : Option Counts → Counts → Option LyingHeader
 lie_of None counts = None
 lie_of (Some said) counts =

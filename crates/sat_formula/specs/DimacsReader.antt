@@ -19,7 +19,7 @@ unread_of remaining r = unread remaining r.text.source
 abbrev pub bytes_left : {R : Type 0} → DimacsReader R → ℕ
 bytes_left r = room_in r.text
 
--- where in its text it stands, before a clause
+-- its position in the text, before a clause
 abbrev pub standing : {R : Type 0} → DimacsReader R → State
 standing r = state_of r.text []
 

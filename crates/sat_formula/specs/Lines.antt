@@ -87,7 +87,7 @@ kind_of_line line = kind_by (find (λ b. not (is_blank b)) line)
 
 -- ---- clauses
 
--- one token, after the literals of an unfinished clause; `next` goes on with the literals after it
+-- one token, after the literals of an unfinished clause; `next` continues with the literals after it
 abbrev pub token_then : ℕ → List ℕ → Token → (List ℕ → Outcome) → Outcome
 token_then line begun tokens.Zero next = with_clause begun (next [])
 token_then line begun (tokens.Literal code) next = next (begun ++ code ∷ [])
@@ -105,7 +105,7 @@ header_then line true right next = ([], Faulty line LateHeader)
 header_then line false true next = next
 header_then line false false next = ([], Faulty line BadHeader)
 
--- a line of this kind; `seen`: whether a number or a header came before; `next` goes on from there
+-- a line of this kind; `seen`: whether a number or a header came before; `next` continues from there
 abbrev pub line_then : LineKind → ℕ → Bool → List ℕ → List ℕ → (Bool → List ℕ → Outcome) → Outcome
 line_then EmptyLine line seen begun bytes next = next seen begun
 line_then CommentLine line seen begun bytes next = next seen begun

@@ -10,7 +10,7 @@ use Rattle.sat_formula.specs.Text.{State, past_of, start, Goes, Gives, Stops, st
 abbrev pub Notes : Type 0
 Notes = List ℕ × Past
 
--- notes behind a clause that ends on this line
+-- notes after a clause that ends on this line
 abbrev pub with_line : ℕ → Notes → Notes
 with_line line n = (line ∷ n.0, n.1)
 

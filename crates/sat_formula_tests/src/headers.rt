@@ -36,13 +36,13 @@ const RIGHT: [&[u8]; 11] = [
     b"  p cnf 2 1 \n\n\n1 2\nc\n0\n",
 ];
 
-/// What is told of the header of a text that is read in parts of this many bytes.
+/// The outcome of the header of a text that is read in parts of this many bytes.
 fn lying_header(rt: &impl Abort, alloc: Global, text: &[u8], part: usize) -> Option<LyingHeader> {
     let counts = Counts {
         variables: 0,
         clauses: 0,
     };
-    // What is told of an earlier text is not kept.
+    // The outcome of an earlier text is not kept.
     let mut lie = Some(LyingHeader {
         said: counts,
         counts,

@@ -90,7 +90,7 @@ written_is_read (adds_clause id c hints) fit =
     ) refl
 written_is_read (deletes_clauses number ids) fit = rw (read_words (deletes_clauses number ids) fit, read_ids ids fit.1) refl
 
--- no LF stands in the text of a line
+-- no LF is in the text of a line
 pub text_in_line : (x : HintLine) → HasFittingNumbers x → list_all (nat_le 32) (text_of x) ≡ true
 text_in_line x fit =
     let front = word_in_line (number_text (first_number x)) (decimal_is_word (first_number x) (first_fits x fit)) in

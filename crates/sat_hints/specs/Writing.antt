@@ -64,13 +64,13 @@ after_step w e = after_all w (hint_step e)
 abbrev pub step_lines : Writer → CheckedStep → List HintLine
 step_lines w e = lines_of w (hint_step e)
 
--- the step has no fault, and its lines stand at the end of the text
+-- the step has no fault, and its lines are at the end of the text
 pub record Wrote (old : LratWriter) (e : CheckedStep) (new : LratWriter) : Type 0 where
   pub accepted : step_fault (writer_of old) e ≡ None
   pub after : writer_of new ≡ after_step (writer_of old) e
   pub text : written new ≡ written old ++ lines_text (step_lines (writer_of old) e)
 
--- what a step asks has no fault, and its line stands at the end of the text, where it has one
+-- what a step asks has no fault, and its line is at the end of the text, where it has one
 pub record WroteLine (old : LratWriter) (e : HintStep) (new : LratWriter) : Type 0 where
   pub accepted : writer_fault (writer_of old) e ≡ None
   pub after : writer_of new ≡ after_written (writer_of old) e

@@ -1,7 +1,7 @@
--- What a writer of hints has written of a run of steps that it was told, and that a checker which holds the formula accepts it.
+-- What a writer of hints has written of a run of steps that was delivered to it, and that a checker which holds the formula accepts it.
 --     takes old e new      the writer takes a step, as a processor
 --     WroteRun n es new      what a new writer for n clauses is after the steps
---     WriterShowsRun      a new writer that takes the steps in turn comes to that
+--     WriterShowsRun      a new writer that takes the steps in turn leads to that
 --     RunsFrom cs es      the steps are a run that begins with the formula's clauses
 --     AcceptsRun cs es text      a checker that holds the formula accepts the text, and answers whether a step derives the empty clause
 --     WriterIsAccepted      so it is with what a writer wrote of such a run
@@ -25,13 +25,13 @@ use Rattle.sat_hints.specs.declared.writer.LratWriter.{LratWriter}
 abbrev pub takes : LratWriter → NamedStep → LratWriter → Type 0
 takes old e new = Wrote old e.step new
 
--- no step has a fault for a new writer, and this one has written their lines and knows what it was told
+-- no step has a fault for a new writer, and this one has written their lines and knows what was delivered to it
 pub record WroteRun (n : ℕ) (es : List NamedStep) (new : LratWriter) : Type 0 where
   pub accepted : first_fault (new_writer n) (hint_steps es) ≡ None
   pub text : written new ≡ lines_text (rules.lines_of (new_writer n) (hint_steps es))
   pub after : writer_of new ≡ after_all (new_writer n) (hint_steps es)
 
--- a new writer that takes the steps in turn comes to that
+-- a new writer that takes the steps in turn leads to that
 abbrev pub WriterShowsRun : Type 0
 WriterShowsRun = (old new : LratWriter) (n : ℕ) (es : List NamedStep) →
     writer_of old ≡ new_writer n → written old ≡ [] → Ran takes old es new → WroteRun n es new
@@ -59,7 +59,7 @@ pub record AcceptsRun (cs : List (List ℕ)) (es : List NamedStep) (bytes : List
   pub accepts : Accepts (listing cs) bytes held
   pub empty : held.added_empty ≡ list_any derives_empty (hint_steps es)
 
--- what a new writer, told this many clauses as the formula has, wrote of such a run
+-- what a new writer, given the number of clauses of the formula, wrote of such a run
 abbrev pub WriterIsAccepted : Type 0
 WriterIsAccepted = (old new : LratWriter) (cs : List (List ℕ)) (es : List NamedStep) →
     writer_of old ≡ new_writer (length cs) → written old ≡ [] → Ran takes old es new →

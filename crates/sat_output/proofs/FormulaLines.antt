@@ -42,7 +42,7 @@ literal_kind l rest fits = literal_by (λ m text. kind_of_line (text ++ rest) �
 
 -- ---- clauses
 
--- the literals of a clause and its 0, after those that stand before them
+-- the literals of a clause and its 0, after those that come before them
 tokens_read : (line : ℕ) (begun c : List ℕ) (next : List ℕ → Outcome) → All IsCode c →
     tokens_from line begun (map literal_text c ++ codes "0" ∷ []) next ≡ with_clause (begun ++ c) (next [])
 unfolding tokens_from

@@ -1,4 +1,4 @@
--- The bytes of LRAT lines in the binary form, where ids stand plain.
+-- The bytes of LRAT lines in the binary form, with plain ids.
 --     groups left n, number_bytes n, numbers_bytes ns      a number in at most this many bytes and one more, a number below 2^64, numbers
 --     lit_number l, hint_number h      the number of a literal, by its code, and that of a hint
 --     line_bytes x, lines_bytes xs      a line, and lines

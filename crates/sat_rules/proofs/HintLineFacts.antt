@@ -25,7 +25,7 @@ pub finds_unit : (s : ℕ → Bool) (c ls : List ℕ) (l : ℕ) → is_unit_on s
 finds_unit s c [] l u h = absurd (false≢true h)
 finds_unit s c (m ∷ ms) l u h = grind (arith, eqb-true l m, unit_is_one s c l m u, finds_unit s c ms l u)
 
--- hints that are not refused name a chain
+-- hints that are not rejected name a chain
 abbrev Chained : (ℕ → Option (List ℕ)) → (ℕ → Bool) → List ℕ → Type 0
 Chained f s ids = (cs : List (List ℕ)) × NamedBy f ids cs × IsChain s cs
 
@@ -41,7 +41,7 @@ admits f s [] h = absurd (cc)
 admits f s (i ∷ []) h = grind (arith, chained_last f s i)
 admits f s (i ∷ j ∷ ids) h = grind (arith, λ (l : ℕ) (c : List ℕ). chained_next f s i l c (j ∷ ids), λ (l : ℕ). admits f (add_lit l s) (j ∷ ids))
 
--- hints that name a chain are not refused
+-- hints that name a chain are not rejected
 pub passes : (f : ℕ → Option (List ℕ)) (s : ℕ → Bool) (ids : List ℕ) (cs : List (List ℕ)) → NamedBy f ids cs → IsChain s cs → hints_cause f s ids ≡ None
 passes f s [] [] n w = absurd w
 passes f s [] (c ∷ cs) n w = absurd n
@@ -96,7 +96,7 @@ not_empty : (a : ℕ → Bool) (c : List ℕ) → clause_true a c ≡ true → i
 not_empty a [] h = absurd (false≢true h)
 not_empty a (l ∷ ls) h = refl
 
--- what is refused for no id is refused for no hint
+-- what is rejected for no id is rejected for no hint
 accepted : (b : Bool) (x : Option HintCause) → cond b (Some id_not_greater) x ≡ None → x ≡ None
 accepted b x h = grind arith
 

@@ -1,10 +1,10 @@
--- What stands in a list, by its test.
+-- What is in a list, by its test.
 use Rattle.std.proofs.Common.{◌≡◌, ℕ, Bool, true, eqb, List, [], ◌∷◌, filter, refl, eq-eqb, inl, inr, arith}
 use Rattle.std.specs.List.{list_any, list_all}
 use Rattle.std.proofs.lemmas.Bool.{eqb-true, and_from, or_cases, or_left, or_right, false≢true}
 use Rattle.sat_rules.specs.Clauses.{has}
 
--- an element of a filtered list stands in the list and passes the test
+-- an element of a filtered list is in the list and passes the test
 pub kept_test : (p : ℕ → Bool) (c : List ℕ) (l : ℕ) → has l (filter p c) ≡ true → p l ≡ true
 kept_test p [] l h = absurd (false≢true h)
 kept_test p (m ∷ ms) l h = grind (arith, eqb-true l m, kept_test p ms l)

@@ -1,9 +1,9 @@
 -- Lines of hints, what a checker that holds only ids and clauses answers to them, and what its yes means.
 --     HintLine      an addition with its hints, or a deletion
---     HintCause      why an addition is refused
---     hints_cause f s ids      the first hint in turn that is refused, where the codes of s are taken as true
+--     HintCause      why an addition is rejected
+--     hints_cause f s ids      the first hint in turn that is rejected, where the codes of s are taken as true
 --     Listed      what the checker holds: the clauses under their ids, and whether the empty clause was added
---     line_cause h x, after_line h x      the refusal of a line, and what is held after an accepted one
+--     line_cause h x, after_line h x      the rejection of a line, and what is held after an accepted one
 --     Follows h xs k      the lines are accepted in turn from h, and lead to k
 --     listing cs      a formula's clauses under 1, 2 and so on
 use Rattle.std.specs.Prelude.{◌≡◌, ℕ, suc, Bool, true, false, if◌then◌else◌, ◌||◌, nat_lt, List, [], ◌∷◌, Option, Some, None}
@@ -46,7 +46,7 @@ hints_cause f s [] = Some no_conflict
 hints_cause f s (i ∷ []) = last_cause s (f i)
 hints_cause f s (i ∷ j ∷ ids) = next_cause s (f i) (λ t. hints_cause f t (j ∷ ids))
 
--- no hint is refused exactly where the list is admitted for the clause
+-- no hint is rejected exactly where the list is admitted for the clause
 abbrev pub HintsDecide : Type 0
 HintsDecide = (f : ℕ → Option (List ℕ)) (c ids : List ℕ) → record {
   sound : hints_cause f (negated_set c) ids ≡ None → IsAdmitted f c ids;

@@ -1,11 +1,11 @@
-//! What a run writes, and how it ends.
+//! The output of a run, and its end.
 use crate::shown::Shown;
 use std::alloc::Global;
 use std::fmt::Display;
 use std::io;
 use std::io::{ErrorKind, Write};
 
-/// Takes this many bytes, which it keeps, and then fails.
+/// A writer that keeps this many bytes, and then fails.
 #[derive(Drop)]
 pub struct Page {
     bytes: Vec<u8>,
@@ -13,7 +13,7 @@ pub struct Page {
 }
 
 impl Page {
-    /// Takes this many bytes.
+    /// Returns a writer that takes this many bytes.
     pub fn of_room(alloc: Global, room: usize) -> Page {
         Page {
             bytes: Vec::new(alloc),
@@ -21,12 +21,12 @@ impl Page {
         }
     }
 
-    /// Takes all bytes.
+    /// Returns a writer that takes all bytes.
     pub fn endless(alloc: Global) -> Page {
         Page::of_room(alloc, usize::MAX)
     }
 
-    /// The bytes that it took.
+    /// Returns the bytes that it took.
     pub fn bytes(&self) -> &[u8] {
         self.bytes.as_slice()
     }
@@ -55,10 +55,10 @@ impl Write for Page {
     }
 }
 
-/// What a run writes, the text of its fault, and its exit status.
+/// The output of a run, the text of its fault, and its exit status.
 pub type Outcome<'a> = (&'a str, &'a str, u8);
 
-/// The outcome of a run that tells this: a line with a verdict, or the text of a fault.
+/// Returns the outcome of a run with this text: a line with a verdict, or the text of a fault.
 pub fn outcome_of(told: &str) -> Outcome<'_> {
     if told.starts_with("s NOT ") {
         (told, "", 3)
@@ -69,7 +69,7 @@ pub fn outcome_of(told: &str) -> Outcome<'_> {
     }
 }
 
-/// How a run ended.
+/// The end of a run.
 #[derive(Drop)]
 pub struct Ended {
     page: Page,
@@ -78,7 +78,7 @@ pub struct Ended {
 }
 
 impl Ended {
-    /// A run that wrote this page, with its answer and the exit status of that.
+    /// Returns the end of a run that wrote this page, with its result and exit status.
     pub fn of<V, E: Display>(
         alloc: Global,
         page: Page,
@@ -96,22 +96,22 @@ impl Ended {
         }
     }
 
-    /// All of it as it stands in rows.
+    /// Returns all of it in the form of rows.
     pub fn outcome(&self) -> Outcome<'_> {
         (self.page.text(), self.fault.text(), self.status)
     }
 
-    /// The exit status.
+    /// Returns the exit status.
     pub fn status(&self) -> u8 {
         self.status
     }
 
-    /// The text of the fault, and of an answer without one none.
+    /// Returns the text of the fault, or an empty one.
     pub fn fault(&self) -> &str {
         self.fault.text()
     }
 
-    /// The bytes that were written.
+    /// Returns the bytes that were written.
     pub fn bytes(&self) -> &[u8] {
         self.page.bytes()
     }

@@ -1,5 +1,5 @@
-//! What tests of several crates share: readers that give few bytes a read, or fail, writers that
-//! take few bytes, and texts of what is seen.
+//! For tests of several crates: readers that return few bytes a read, or fail, writers that take
+//! few bytes, and texts of what is seen.
 #![tactic(auto)]
 
 mod ended;
@@ -10,7 +10,7 @@ pub use ended::{Ended, Outcome, Page, outcome_of};
 pub use pieces::Pieces;
 pub use shown::Shown;
 
-/// Four clauses, one against each pair of values of two variables.
+/// Four clauses, each excluding one assignment of two variables.
 pub const FOUR: &str = "1 2 0 1 -2 0 -1 2 0 -1 -2 0";
 
 /// The line of a proof that shows its formula unsatisfiable.

@@ -1,29 +1,30 @@
-//! Readers that give few bytes a read, or fail.
+//! Readers that return few bytes a read, or fail.
 use std::io;
 use std::io::{ErrorKind, Read};
 
-/// Gives this many bytes a read, and may fail one of its reads.
+/// A reader of this many bytes a read, of which one read may fail.
 #[derive(Clone, Copy, Debug)]
 pub struct Pieces<'a> {
     rest: &'a [u8],
     size: usize,
-    /// The number of the read that fails, counted from 1. It is 0 where none does, or one has.
+    /// The number of the read that fails, counted from 1; 0 if none does, or one has.
     failing: usize,
     kind: ErrorKind,
 }
 
 impl Pieces<'_> {
-    /// As many bytes a read as there is room for.
+    /// Returns a reader of as many bytes a read as fit.
     pub fn whole(bytes: &[u8]) -> Pieces<'_> {
         Pieces::of_size(bytes, usize::MAX)
     }
 
-    /// This many bytes a read.
+    /// Returns a reader of this many bytes a read.
     pub fn of_size(bytes: &[u8], size: usize) -> Pieces<'_> {
         Pieces::failing_at(bytes, size, 0)
     }
 
-    /// This many bytes a read, and the read of this number, counted from 1, is interrupted.
+    /// Returns a reader of this many bytes a read, whose read of this number, from 1 on, is
+    /// interrupted.
     pub fn failing_at(bytes: &[u8], size: usize, failing: usize) -> Pieces<'_> {
         Pieces {
             rest: bytes,
@@ -33,12 +34,12 @@ impl Pieces<'_> {
         }
     }
 
-    /// One byte a read, and after the last one a read that fails so.
+    /// Returns a reader of one byte a read, which fails so after the last one.
     pub fn broken(bytes: &[u8], kind: ErrorKind) -> Pieces<'_> {
         Pieces::broken_at(bytes, bytes.len().saturating_add(1), kind)
     }
 
-    /// One byte a read, and the read of this number, counted from 1, fails so.
+    /// Returns a reader of one byte a read, whose read of this number, from 1 on, fails so.
     pub fn broken_at(bytes: &[u8], failing: usize, kind: ErrorKind) -> Pieces<'_> {
         let mut pieces = Pieces::failing_at(bytes, 1, failing);
         pieces.kind = kind;

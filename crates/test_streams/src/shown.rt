@@ -4,29 +4,29 @@ use sat_formula::Lit;
 use std::alloc::Global;
 use std::fmt::Display;
 
-/// What a test sees, in words. Those for which there is no memory are left out, so that it is not
-/// the text that is wanted. No call fails: a test that goes on after each has fewer ways to end.
+/// What a test sees, in words. Words for which there is no memory are left out, and the text then
+/// differs from the expected one. No call fails, so a test has fewer exits.
 #[derive(Drop)]
 pub struct Shown {
     text: String,
 }
 
 impl Shown {
-    /// Nothing yet.
+    /// Returns an empty text.
     pub fn new(alloc: Global) -> Shown {
         Shown {
             text: String::new(alloc),
         }
     }
 
-    /// The text of a value, as of a fault.
+    /// Returns the text of a value, as of a fault.
     pub fn of<D: Display>(alloc: Global, value: &D) -> Shown {
         let mut shown = Shown::new(alloc);
         shown.value(value);
         shown
     }
 
-    /// These words, each this many times.
+    /// Returns these words, each this many times.
     pub fn of_parts(alloc: Global, parts: &[(&str, u32)]) -> Shown {
         let mut shown = Shown::new(alloc);
         for (words, count) in parts {
@@ -37,39 +37,39 @@ impl Shown {
         shown
     }
 
-    /// Words as they are.
+    /// Appends words as they are.
     pub fn words(&mut self, words: &str) {
         let _ = self.text.push_str(words);
     }
 
-    /// A line of these words.
+    /// Appends a line of these words.
     pub fn line(&mut self, words: &str) {
         let _ = writeln!(self.text, "{words}");
     }
 
-    /// A number after these words.
+    /// Appends a number after these words.
     pub fn number(&mut self, before: &str, number: u64) {
         let _ = write!(self.text, "{before}{number}");
     }
 
-    /// A number that may have a sign, after these words.
+    /// Appends a number that may have a sign, after these words.
     pub fn signed(&mut self, before: &str, number: i64) {
         let _ = write!(self.text, "{before}{number}");
     }
 
-    /// The text of a value, as of a fault.
+    /// Appends the text of a value, as of a fault.
     pub fn value<D: Display>(&mut self, value: &D) {
         let _ = write!(self.text, "{value}");
     }
 
-    /// The numbers of literals, each after a blank.
+    /// Appends the numbers of literals, each after a blank.
     pub fn lits(&mut self, lits: &[Lit]) {
         for lit in lits {
             self.signed(" ", lit.to_dimacs());
         }
     }
 
-    /// A clause by its numbers.
+    /// Appends a clause by its numbers.
     pub fn clause(&mut self, lits: &[Lit]) {
         self.words("[");
         for lit in lits {
@@ -79,7 +79,7 @@ impl Shown {
         self.words("]");
     }
 
-    /// A line of an LRAT proof up to its last word, without the number before a deletion.
+    /// Appends a line of an LRAT proof up to its last word, without the number before a deletion.
     pub fn lrat_line(&mut self, line: LratLine<'_>) {
         match line {
             LratLine::Add { id, clause, hints } => {
@@ -106,12 +106,12 @@ impl Shown {
         }
     }
 
-    /// Nothing any more.
+    /// Clears the text.
     pub fn clear(&mut self) {
         self.text.clear();
     }
 
-    /// All that was shown.
+    /// Returns the text.
     pub fn text(&self) -> &str {
         self.text.as_str()
     }

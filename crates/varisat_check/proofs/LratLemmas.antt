@@ -140,13 +140,13 @@ module _ {P C : Type 0} {listens : Listens P} {listens_image : ListensImage C} {
       let unsatisfiable : verdict_of (shown_inputs s') u ≡ Unsatisfiable = sym (told ∙ ap (λ m. verdict_of m u) inputs) ∙ is in
       sym (members formula a) ∙ refuted_before s' u (map add_clause formula) (runs lives).answered lives unsatisfiable covered a
 
--- ---- refusals
+-- ---- rejections
 
 -- a processor that is not registered
 pub processor_refused : (formula : List (List ℕ)) (e : CheckerError) (r : State) → r ≡ new_state → (r.failed ≡ false → e ≡ OutOfMemory) → RefusesFormula formula e
 processor_refused formula e r new given = subst (RefusesFormula formula) (sym (given (ap (λ (x : State). x.failed) new))) (fail new_state, refl)
 
--- a refused proof
+-- a rejected proof
 pub proof_refused : {P C : Type 0} {listens : Listens P} {listens_image : ListensImage C}
     {mid last : Listeners P C} (known : Option (List ℕ)) (formula : List (List ℕ)) (e : CheckerError) (r s s' u : State) →
     Adding formula r s s'

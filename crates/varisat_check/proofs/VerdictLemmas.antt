@@ -4,7 +4,7 @@
 --     refuted_clauses      and the formula, where the checker was new
 --     whole_run, refuted_text      the run over both texts, and what it says of a text whose bytes are known
 --     unwritten_run      and where its line was not written whole
---     told_run      what it tells of the formula's header
+--     told_run      what it reports of the formula's header
 use Rattle.std.proofs.Common.{◌≡◌, ◌≤◌, ℕ, Bool, true, false, List, [], map, Option, Some, None, Result, Ok, Err, refl, sym, ap, ◌∙◌, subst, arith}
 use Rattle.std.specs.Prelude.{◌-◌, IfOk}
 use Rattle.std.proofs.lemmas.Bool.Decides.{nat_tests}
@@ -93,7 +93,7 @@ pub text_refused : {P T : Type 0} {listens : Listens P} {listens_image : Listens
     → (s.failed ≡ false → TextRun {A = Unit {0}} cnf s (Err e) s' listens listens_image old new) → RefusedText cnf e
 text_refused cnf e s s' same h = let run = h (ap (λ (r : State). r.failed) same) in (run.clauses, s', subst (λ r. TextAnswer {A = Unit {0}} cnf r run.clauses (Err e) s') same run.answered)
 
--- the proof's run behind a whole formula
+-- the proof's run after a whole formula
 pub whole_run : {P T : Type 0} (listens : Listens P) (listens_image : ListensImage T)
     (old new : Listeners P T) (cnf proof : Known) (s s' : State) (r : Result Verdict RunFault) → AddsText cnf s
     → OnProof (λ answer. ProofRun proof s answer s' listens listens_image old new) r → IfOk r (λ v. v ≡ verdict_of (shown_inputs s) s')

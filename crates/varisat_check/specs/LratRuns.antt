@@ -1,8 +1,8 @@
 -- Runs over a formula and a proof whose checked steps a processor writes.
 --     filled formula      the state of a new checker with these clauses
 --     LratRun took known formula old v new      the whole run, and what the processor took of it
---     RefusesRun known formula fault      what the run was refused for
---     IsRefusedRun r      the formula or the proof was refused
+--     RefusesRun known formula fault      what the run was rejected for
+--     IsRefusedRun r      the formula or the proof was rejected
 --     StopsInTurn, StopsWriting      two writes in turn of which one failed, and the run that made them
 use Rattle.std.specs.Prelude.{◌≡◌, ◌⊎◌, ℕ, List, ◌++◌, map, take, Option, None, Result, Ok, Err}
 use Rattle.std.specs.Io.KnownBytes.{Appends}
@@ -32,7 +32,7 @@ use Rattle.varisat_check.specs.declared.verdict.Verdict.{Verdict}
 abbrev pub filled : List (List ℕ) → State
 filled formula = (add_clauses new_state formula).after
 
--- a new checker accepts the formula and then the whole proof up to its `End`; the processor took all steps that both tell;
+-- a new checker accepts the formula and then the whole proof up to its `End`; the processor took all steps that both deliver;
 -- these begin with the formula's clauses as input clauses, or a beginning of them, and are a run of the hint machine; the verdict is by what was recorded
 pub record LratRun {P : Type 0} (took : P → NamedStep → P → Type 0) (known : Option (List ℕ))
     (formula : List (List ℕ)) (old : P) (verdict : Verdict) (new : P) : Type 0 where
@@ -51,18 +51,18 @@ pub record LratRun {P : Type 0} (took : P → NamedStep → P → Type 0) (known
   pub is_run : IsRun empty_machine (hint_steps (of_formula ++ of_proof))
   pub verdict_is : verdict ≡ verdict_of (shown_inputs (filled formula)) left
 
--- a new checker refuses the clauses so
+-- a new checker rejects the clauses so
 abbrev pub RefusesFormula : List (List ℕ) → CheckerError → Type 0
 RefusesFormula formula e = (left : State)
     × AnswersStep {A = Unit {0}} (Err e) (add_clauses new_state formula) left
 
--- a new checker accepts the formula, and then refuses the proof so
+-- a new checker accepts the formula, and then rejects the proof so
 abbrev pub RefusesProof : Option (List ℕ) → List (List ℕ) → CheckerError → Type 0
 RefusesProof known formula e =
     ((add_clauses new_state formula).refused ≡ None) × (text : List ℕ) × (steps : List Step)
     × (left : State) × ProofAnswer {A = Unit {0}} known (filled formula) text steps (Err e) left
 
--- what the run was refused for; nothing is said of a write, nor where memory was refused or a processor answered a fault
+-- what the run was rejected for; nothing is said of a write, nor where memory was refused or a processor answered a fault
 abbrev pub RefusesRun : Option (List ℕ) → List (List ℕ) → RunFault → Type 0
 RefusesRun known formula (Formula (texts.Checker e)) = RefusesFormula formula e
 RefusesRun known formula (Formula (texts.Read cause)) = ⊥
@@ -70,7 +70,7 @@ RefusesRun known formula (Formula (texts.Malformed line kind)) = ⊥
 RefusesRun known formula (Proof e) = RefusesProof known formula e
 RefusesRun known formula (Write cause) = Unit {0}
 
--- the formula or the proof was refused
+-- the formula or the proof was rejected
 abbrev pub IsRefusedRun : {A : Type 0} → Result A RunFault → Type 0
 IsRefusedRun (Ok given) = ⊥
 IsRefusedRun (Err (Write cause)) = ⊥

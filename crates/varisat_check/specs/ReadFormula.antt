@@ -9,8 +9,8 @@ use Rattle.varisat_checker.specs.TextRun.{outcome_of}
 use Rattle.varisat_check.specs.declared.fault.RunFault.{RunFault}
 use Rattle.varisat_check.specs.declared.fault.RunFault.TheVariants.{Formula, Proof, Write}
 
--- all clauses of the text, which has no fault; or the fault of the text, behind some clauses;
--- a read fails and memory is wanted behind some clauses too, and no other fault is answered
+-- all clauses of the text, which has no fault; or the fault of the text, after some clauses;
+-- a read fails and memory ran out after some clauses too, and no other fault is answered
 abbrev pub ReadsFormula : Option (List ℕ) → Result (List (List ℕ)) RunFault → Type 0
 ReadsFormula known (Ok formula) = IsOutcome (outcome_of known) (formula, Ended)
 ReadsFormula known (Err (Formula (Malformed line kind))) = (clauses : List (List ℕ))

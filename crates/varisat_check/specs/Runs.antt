@@ -1,10 +1,10 @@
 -- Runs over a formula and a proof.
 --     OnProof P r      P of what the checker answered to the proof
---     IsFailedRun r, IsRefusedRun r      the checker had failed before; the formula or the proof was refused
+--     IsFailedRun r, IsRefusedRun r      the checker had failed before; the formula or the proof was rejected
 --     AddedRun cnf proof r      the proof was run where the formula was added whole; what the verdict says of the clauses that were added
 --     CheckRun cnf proof r      the run over both texts
 --     IsUnwritten r, BeginsLine      the verdict's line was not written whole, and what was written then
---     RunTellsLie cnf r told      this is told of the formula's header
+--     RunTellsLie cnf r told      this is reported of the formula's header
 use Rattle.std.specs.Prelude.{◌≡◌, ℕ, Bool, false, List, Option, None, Result, Ok, Err, IfOk}
 use Rattle.sat_rules.specs.Clauses.{all_true}
 use Rattle.sat_formula.specs.declared.counts.LyingHeader.{LyingHeader}
@@ -36,7 +36,7 @@ OnProof P (Err (Formula e)) = ⊥
 abbrev pub IsFailedRun : Result Verdict RunFault → Type 0
 IsFailedRun r = r ≡ Err (Proof Failed)
 
--- the formula or the proof was refused
+-- the formula or the proof was rejected
 abbrev pub IsRefusedRun : Result Verdict RunFault → Type 0
 IsRefusedRun (Ok verdict) = ⊥
 IsRefusedRun (Err (Write cause)) = ⊥
@@ -68,7 +68,7 @@ CheckRun cnf proof (Err (Write cause)) = AddedRun cnf proof (Err (Write cause))
 CheckRun cnf proof (Err (Proof e)) = AddedRun cnf proof (Err (Proof e))
 CheckRun cnf proof (Err (Formula e)) = RefusedText cnf e
 
--- the verdict stands, and what it is to write was not written whole
+-- there is a verdict, and what it is to write was not written whole
 abbrev pub IsUnwritten : {A : Type 0} → Result A RunFault → Type 0
 IsUnwritten (Ok given) = ⊥
 IsUnwritten (Err (Write cause)) = Unit {0}
@@ -87,7 +87,7 @@ pub record BeginsLine (cnf proof old new : Option (List ℕ)) : Type 0 where
   pub runs : ProofAnswer {A = Unit {0}} proof formula text steps (Ok tt) left
   pub begins : AppendsBeginning old new (shown_line (verdict_of (shown_inputs formula) left))
 
--- what the header lies about, where the formula was added whole; else nothing
+-- the mismatch of the header, if the formula was added whole; else nothing
 abbrev pub RunTellsLie : Option (List ℕ) → Result Verdict RunFault → Option LyingHeader → Type 0
 RunTellsLie cnf (Ok verdict) told = IsLie cnf told
 RunTellsLie cnf (Err (Write cause)) told = IsLie cnf told

@@ -17,7 +17,7 @@ pub const WIDTH_1: [u8; 16] = [
     0x09, 0x01, 0x06, 0x00, 0x01, 0x00, 0x02, 0x01, 0x00, 0x06, 0x00, 0x00, 0x02, 0x00, 0x01, 0x0D,
 ];
 
-/// The step at which it is incomplete where this many of its bytes stand.
+/// Returns the step at which the proof is incomplete if it has this many bytes.
 pub fn first_missing(len: usize) -> u64 {
     match len {
         0..2 => 1,
@@ -27,7 +27,7 @@ pub fn first_missing(len: usize) -> u64 {
     }
 }
 
-/// Derives a clause from the clauses of these hashes.
+/// Returns the step that derives a clause from the clauses of these hashes.
 pub fn derived<'a>(clause: &'a [Lit], hashes: &'a [u64]) -> ProofStep<'a> {
     ProofStep::AtClause {
         redundant: false,
@@ -36,7 +36,8 @@ pub fn derived<'a>(clause: &'a [Lit], hashes: &'a [u64]) -> ProofStep<'a> {
     }
 }
 
-/// A proof from the four clauses with whole hashes: first the unit 1, and then the empty clause.
+/// Returns a proof from the four clauses with hashes of 64 bits: first the unit 1, and then the
+/// empty clause. Fails only if memory runs out.
 pub fn proof_of_four(alloc: Global) -> Result<Vec<u8>, Fail> {
     let one = Lit::from_dimacs(1).ok_or("no literal")?;
     let mut proof = Vec::new(alloc);

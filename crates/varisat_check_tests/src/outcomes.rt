@@ -26,7 +26,7 @@ pub fn has_outcome(
     assert_eq!(rt; ended.outcome(), outcome);
 }
 
-/// The text of the fault where this many bytes of the proof at width 1 stand.
+/// Returns the text of the fault if there are this many bytes of the proof at width 1.
 pub fn incomplete(alloc: Global, len: usize) -> Shown {
     let mut text = Shown::new(alloc);
     text.number("step ", first_missing(len));

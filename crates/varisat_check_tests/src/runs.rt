@@ -25,7 +25,7 @@ const RUNS: [Row; 11] = [
     (b"1 0", b"\x05\x00\x0D", WITH_ONE_ADDED),
     (UNITS, END, SHOWN),
     (b"1 0", END, NOT_SHOWN),
-    // texts of refusals
+    // texts of rejections
     (b"1 0\n2 x 0", END, ("", "line 2: bad number", 1)),
     (b"1 2", END, ("", "line 1: unterminated clause", 1)),
     (b"p cnf 1\n", END, ("", "line 1: bad header", 1)),

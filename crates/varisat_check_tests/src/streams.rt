@@ -11,6 +11,7 @@ pub struct Counting {
 }
 
 impl Counting {
+    /// Returns a writer that has no byte yet.
     pub fn new(alloc: Global) -> Counting {
         Counting {
             text: Vec::new(alloc),

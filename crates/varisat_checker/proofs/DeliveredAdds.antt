@@ -1,8 +1,8 @@
 -- A loop that adds clauses one after the other, and what it delivers on.
 --     AddedSoFar s cs u      the clauses were all accepted, and led to u
---     added-all, added-more, added-stops      its end, a turn, and a refusal
+--     added-all, added-more, added-stops      its end, a turn, and a rejection
 --     sets-added, covers-added      what follows for the satisfying set
---     adds-more, adds-stop      what is delivered on: at a turn, and at a clause that is refused or meets a fault
+--     adds-more, adds-stop      what is delivered on: at a turn, and at a clause that is rejected or meets a fault
 --     AddedDelivered      both over a formula, of which some clauses are left
 --     formula-none, formula-more, of-stops, formula-stops, of-all, formula-all      the same over a formula
 use Rattle.std.proofs.Common.{◌≡◌, ℕ, false, List, [], ◌∷◌, ◌++◌, map, Option, Some, None, refl, sym, ap, ◌∙◌, subst, append-nil, append_assoc, arith}
@@ -19,12 +19,12 @@ use Rattle.varisat_checker.proofs.FailingLemmas.{Answer, err_answer, ok_answer}
 
 -- ---- what is accepted
 
--- all of them were accepted, and the checker goes on
+-- all of them were accepted, and the checker continues
 pub record AddedSoFar (s : State) (cs : List (List ℕ)) (u : State) : Type 0 where
   pub running : u.failed ≡ false
   pub accepted : add_clauses s cs ≡ accept u
 
--- a refusal of the first of two parts is one of both
+-- a rejection of the first of two parts is one of both
 stops : (o : Outcome) (next : State → Outcome) (e : CheckerError) (w : State) → AnswersStep (err_answer e) o w →
     AnswersStep (err_answer e) (and_then o next) w
 stops o next (CheckFailed number msg debug_step) w h = rw h.0 (refl, h.1, h.2)
@@ -86,7 +86,7 @@ first-emits u c ds = let k = by (step u (add_clause c)).refused in (k.0, λ es h
     by None = let all = all-emissions (step u (add_clause c)).after (added (step u (add_clause c)).after ds) in (all.0, λ es h k. (es, all.0, k, all.1, refl))
     by (Some cause) = ([], λ es h k. append-nil es ∙ h)
 
--- where it is refused or the last, it alone
+-- where it is rejected or the last, it alone
 alone-emits : (u : State) (c : List ℕ) (ds : List (List ℕ)) (es : List NamedStep) → ((step u (add_clause c)).refused ≡ None → ds ≡ []) →
     Emits u (add_clause c) es → EmitsAdded u (c ∷ ds) es
 alone-emits u c ds es last h = grind arith

@@ -4,7 +4,7 @@
 --     unless-always, unless-bind      what holds unless it did
 --     unless-moved, after-parts      the same of the state after the call, which records where it gave up
 --     entails-call, entails-on      after one call over parts, and where the checker did not fail at it
---     proof-run      a run over parts as one of the checker, which goes on after it or fails
+--     proof-run      a run over parts as one of the checker, which continues after it or fails
 use Rattle.std.proofs.Common.{◌≡◌, Bool, true, false, None, Result, Ok, Err, OnOk, arith, ℕ, List, Option}
 use Rattle.varisat_checker.proofs.Common.{Call, adds, answer_of, checks, closes, EntailsRedundant, Outcome, State, add_clause, AnswersParts}
 use Rattle.varisat_checker.proofs.Common.{AnswersStep, UnlessFailed, UnlessGivenUp, ending, CheckerError, unless_failed, Listeners, Listens}
@@ -52,7 +52,7 @@ pub after-parts : (P : State → Type 0) (r : Answer) (o : Outcome) (s' u : Stat
     → UnlessFailed r (P u)
 after-parts P r o s' u h same p = unless-moved P r s' u same (unless-bind r (P s') (unless_failed P o p r s') h)
 
--- ---- where the redundant clauses are entailed, they are so after calls
+-- ---- where the redundant clauses are entailed, they are entailed after calls
 
 after-call : (s : State) (call : Call) → EntailsRedundant s → EntailsRedundant (answer_of s call).after
 after-call s (adds c) good = (step_keeps s (add_clause c) good).0
@@ -63,7 +63,7 @@ module _ (s : State) (good : EntailsRedundant s) (call : Call) (r : Answer) (u :
   pub entails-call : AnswersStep r (answer_of s call) u → UnlessFailed r (EntailsRedundant u)
   entails-call h = unless_failed (λ (w : State). EntailsRedundant w) _ (after-call s call good) r u h
 
-  -- the same where the checker goes on after it
+  -- the same where the checker continues after it
   pub entails-on : {b : Bool} → b ≡ has_failed r → b ≡ false → AnswersParts r (answer_of s call) u → EntailsRedundant u
   entails-on e on h = kept-on r e on (entails-call (went-on r (answer_of s call) u e on h))
 

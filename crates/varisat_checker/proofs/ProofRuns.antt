@@ -62,7 +62,7 @@ module _ {s : State} {steps : List Step} {s' : State} (p : SoFarSets s steps s')
   sets-counted r u counted = rw counted (ends r (count_step s') (λ ts. unless-always r) (unless-always r)
       (λ good ts f. unless-always r (λ a. sat-count_step s' a ∙ f a)))
 
-  -- the step that was read is refused
+  -- the step that was read is rejected
   pub sets-refused : (step : Step) (e : CheckerError) (u : State) → AnswersParts (err_answer e) (attempt s' step) u → AnswerSets s steps (Err e) u
   sets-refused step e u h = ends (Err e) u (λ ts f. unless-bind (Err e) _ (covers_fold-attempt _ _ _ (Err e) _ f) h)
       (λ good. unless-bind (Err e) _ (entails-call _ good (checks step) (Err e) _) h)

@@ -90,7 +90,7 @@ module _ {R P T : Type 0} {remaining : R → Option (List ℕ)} {listens : Liste
       certified = certifies-text s w clauses r form a;
     }
 
-    -- a clause that was refused, or that a box faulted at
+    -- a clause that was rejected, or that a box faulted at
     pub delivered-stops : {more : Bool} → more ≡ true → Answers remaining mid new clause (Ok more) → {e : CheckerError} {w : State} {later : Listeners P T} →
         AnswersStep (err_answer e) (step u (add_clause clause)) w →
         Delivered (err_answer e) (EmitsCall u (adds clause)) listens listens_image now later →

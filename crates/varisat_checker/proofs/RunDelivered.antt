@@ -57,7 +57,7 @@ move-closed : (s' : State) (place : Place) (refused : Option Cause) → s'.ended
     move next_of s' place ≡ inr (as_answer refused, (closing_conflict s').after)
 move-closed s' place refused ended is = rw (← is) (move_closed s' place ended)
 
--- this call comes last at the place, and a refusal by the outcome ends the run
+-- this call comes last at the place, and a rejection by the outcome ends the run
 abbrev EndsBy : State → Outcome → Option Call → Place → Type 0
 EndsBy s' o call place = (last_calls next_of s' place ≡ calls_of call)
     × ((cause : Cause) → o.refused ≡ Some cause → move next_of s' place ≡ inr (Some (inl cause), o.after))
@@ -124,7 +124,7 @@ module _ {known now : Known} {s s' : State} {steps : List Step} {format : Format
     all : IsAtEnd later → IsTextOf known (p.taken ++ extra)
     all = all_taken _ _ _ (bytes_on _ _ p.bytes bytes) (Consumes-trans _ _ _ _ _ p.consumed consumed)
 
-    -- over a text that goes on in any way behind it
+    -- over a text that continues in any way after it
     over : (A : Place → Type 0) → ((more : List ℕ) → A (format, extra ++ more)) → LeadsTo known s steps s' A
     over A h =
         let k = of_text (λ text. (there : Place) × RunsTo s (start_of text) steps s' there × A there) _ _ _
@@ -213,7 +213,7 @@ module _ {P T : Type 0} {listens : Listens P} {listens_image : ListensImage T} {
   delivered-closes form (Err e) u new ended h k =
       refuses form u new (closing_conflict s') (Some closes) (closing p.reads ended) e (sets-close p.sets (Err e) u h) h k
 
-  -- the step that was read is refused, or a box answered a fault at it
+  -- the step that was read is rejected, or a box answered a fault at it
   pub delivered-refused : WellFormed s → {later : Known} {next : Format} {step : Step} →
       Leads now later (next_at format) (λ more. Ok ((next, step), more)) → MayRead s' → {u : State} {new : Listeners P T} {e : CheckerError} →
       AnswersParts (err_answer e) (attempt s' step) u →

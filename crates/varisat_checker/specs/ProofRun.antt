@@ -29,7 +29,7 @@ IsReadText (given_up memory_refused) known text = BeginsTextOf known text
 IsReadText had_failed known text = ⊥
 IsReadText _ known text = IsTextOf known text
 
--- the run accepts these steps and ends so: by `End`, a refusal, the end of the text, its first fault, or a read's fault in place of the end
+-- the run accepts these steps and ends so: by `End`, a rejection, the end of the text, its first fault, or a read's fault in place of the end
 abbrev pub EndsProof : Ending → List ℕ → State → List Step → State → Type 0
 EndsProof accepted text s steps s' = Runs next_of s (start_of text) steps None s'
 EndsProof (refused cause number) text s steps s' =
@@ -39,7 +39,7 @@ EndsProof (unread why number) text s steps s' =
 EndsProof (given_up loss) text s steps s' = Unit {0}
 EndsProof had_failed text s steps s' = ⊥
 
--- what the accepted steps emit, and then the step that was refused or met a fault, or the closing conflict
+-- what the accepted steps emit, and then the step that was rejected or met a fault, or the closing conflict
 abbrev pub EmitsProof : Ending → State → List ℕ → List Step → List NamedStep → Type 0
 EmitsProof had_failed s text steps es = ⊥
 EmitsProof _ s text steps es = EmitsRun next_of s (start_of text) steps es
@@ -66,7 +66,7 @@ pub record ProofRun {A P T : Type 0} (known : Option (List ℕ)) (s : State)
   pub delivered : Delivered r (EmitsProof (ending r) s text steps) listens listens_image old new
   pub certified : Certifies r (EmitsProof (ending r) s text steps) s s'
 
--- what a run over a text answers of parts whose redundant clauses need not be entailed: what rests on that has it as its premise, and it is so again after the run
+-- what a run over a text answers of parts whose redundant clauses need not be entailed: what relies on that has it as its premise, which holds again after the run
 pub record PartsAnswer {A : Type 0} (known : Option (List ℕ)) (s : State) (text : List ℕ)
     (steps : List Step) (r : Result A CheckerError) (s' : State) : Type 0 where
   pub is_text : IsReadText (ending r) known text

@@ -26,7 +26,7 @@ use Rattle.checker_steps.specs.Delivered.{Listeners, Listens, ListensImage, Deli
 abbrev pub outcome_of : Option (List ℕ) → Option dimacs.Outcome
 outcome_of known = option_map lines.outcome_of known
 
--- all the clauses of the text, those before its fault, or those before a failed read, a failed allocation or a refused clause, and it
+-- all the clauses of the text, those before its fault, or those before a failed read, a failed allocation or a rejected clause, and it
 abbrev pub EndsText : {A : Type 0} → Option dimacs.Outcome → List (List ℕ) → Result A DimacsError →
     Type 0
 EndsText known clauses (Ok done) = IsOutcome known (clauses, dimacs.Ended)

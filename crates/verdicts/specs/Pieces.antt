@@ -11,7 +11,7 @@ piece_line Refuted = shown_line Verified
 piece_line Carried = codes "s VERIFIED PIECE" ++ 10 ∷ []
 piece_line NotCarried = shown_line NotVerified
 
--- no clause that is wanted is missing
+-- no target clause is missing
 abbrev pub shows_wanted : PieceVerdict → Bool
 shows_wanted Refuted = true
 shows_wanted Carried = true

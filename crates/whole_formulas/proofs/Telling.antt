@@ -1,4 +1,4 @@
--- From the answers of many calls to what a header lies about, for the crates above.
+-- From the answers of many calls to the mismatch of a header, for the crates above.
 --     HasTold-nil, HasTold-more      a new reader; a call that gave a clause
 --     IsLie-ended      a call that found the end
 use Rattle.std.proofs.Common.{◌≡◌, ℕ, Bool, true, false, ◌+◌, ◌-◌, ◌^◌, List, [], ◌∷◌, ◌++◌, length, Some, None, Ok, refl, sym, ap, ◌∙◌, arith, length-append, subst}

@@ -1,7 +1,7 @@
--- What the header of a formula lies about.
+-- The mismatch between the header of a formula and its clauses.
 --     lie_in text      the header of a text, where it says something else than the text's clauses
---     IsLie known told      this is told of a text of these bytes
---     TellsLie known r told      it is told where the text was read whole
+--     IsLie known told      this is reported of a text of these bytes
+--     TellsLie known r told      it is reported if the text was read whole
 use Rattle.std.specs.Prelude.{◌≡◌, ℕ, ◌-◌, ◌^◌, min, List, length, Option, None, Result, Ok, Err, IfSome}
 use Rattle.sat_formula.specs.declared.counts.Counts.{Counts}
 use Rattle.sat_formula.specs.declared.counts.LyingHeader.{LyingHeader}
@@ -10,7 +10,7 @@ use Rattle.sat_formula.specs.Formula.{var_count_of}
 use Rattle.sat_formula.specs.Lines.{outcome_of}
 use Rattle.sat_formula.specs.Notes.{header_of}
 
--- how many variables there are, by the largest one, and how many clauses; a number of clauses stays at the largest of 64 bits
+-- the number of variables, by the largest one, and that of clauses; a number of clauses stays at the largest of 64 bits
 abbrev pub counts_of : List (List ℕ) → Counts
 counts_of clauses = record {
   variables = var_count_of clauses;
@@ -21,11 +21,11 @@ counts_of clauses = record {
 abbrev pub lie_in : List ℕ → Option LyingHeader
 lie_in text = lie_of (header_of text) (counts_of (outcome_of text).0)
 
--- what a text of these bytes lies about, where they are known
+-- the mismatch of a text of these bytes, where they are known
 abbrev pub IsLie : Option (List ℕ) → Option LyingHeader → Type 0
 IsLie known told = IfSome known (λ text. told ≡ lie_in text)
 
--- it is told of a text that was read whole; of another one nothing is
+-- it is reported of a text that was read whole, and nothing of another one
 abbrev pub TellsLie : {A E : Type 0} → Option (List ℕ) → Result A E → Option LyingHeader → Type 0
 TellsLie known (Ok read) told = IsLie known told
 TellsLie known (Err fault) told = told ≡ None

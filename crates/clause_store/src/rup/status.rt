@@ -19,7 +19,8 @@ pub enum ClauseStatus {
     Idle,
 }
 
-/// Looks at each literal once, and no further than a true or a second free one.
+/// Returns the status of a clause under the units. Looks at each literal once, up to a true or a
+/// second free one.
 ///
 /// Most literals that a check looks at are false. They are passed over by one comparison each, in a
 /// loop that does nothing else.

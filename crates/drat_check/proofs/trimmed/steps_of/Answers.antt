@@ -3,7 +3,7 @@ use Rattle.drat_check.specs.Outputs.{IfWanted}
 use Rattle.drat_check.proofs.trimmed.steps_of.Goals as goal
 use Rattle.drat_check.proofs.trimmed.steps_of.Goals.{in-Add+in_ok-push_addition-in-Add, in-Delete+in_ok-push_deletions-in-Delete, in-Delete+else-has_begun}
 
--- what is so in any case
+-- what holds in any case
 wanted : {W : Type 0} (w : Option W) (P : Type 0) → P → IfWanted w P
 wanted None P p = tt
 wanted (Some w) P p = p

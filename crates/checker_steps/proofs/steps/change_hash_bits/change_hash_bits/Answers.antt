@@ -6,7 +6,7 @@ use Rattle.checker_steps.proofs.DeliveryLemmas.{whole-none}
 use Rattle.checker_steps.proofs.steps.change_hash_bits.change_hash_bits.Goals as goal
 use Rattle.checker_steps.proofs.steps.change_hash_bits.change_hash_bits.Goals.{then-bits-eq0-via-then-bits-eq0, then-bits-eq0-via-else-bits-eq0+then-bits-gt-BITS}
 
--- the widths that are refused, and those that are taken
+-- the widths that are rejected, and those that are taken
 out_of_range : (n : ℕ) → (n ≡ 0) ⊎ (64 < n) → (eqb n 0 || ltb 64 n) ≡ true
 out_of_range n h = grind (arith, nat_tests)
 

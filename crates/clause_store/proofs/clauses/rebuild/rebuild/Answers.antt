@@ -26,7 +26,7 @@ returns-clause-within c k =
     subst (All (λ d. IsWithin d.lits b)) (cc (c.loop-clause.invariant k, take_all c.loop-clause.clause-index all (omega arith)))
     (All-filter (has_hash h b k) (λ d. IsWithin d.lits b) all c.requires.within)
 
--- one clause more stands in the bucket of its hash
+-- one clause more is in the bucket of its hash
 bucket-step : (f : Clause → ℕ) (all : List Clause) (i : ℕ) (x : Clause) (old new : ℕ → List Clause) (hash : ℕ) → i < length all →
     x ≡ get_or all i x → hash ≡ f x → ((k : ℕ) → old k ≡ filter (λ c. eqb (f c) k) (take i all))
     → new hash ≡ old hash ++ x ∷ [] → ((k : ℕ) → (k ≡ hash → ⊥) → new k ≡ old k) → (k : ℕ) → new k ≡ filter (λ c. eqb (f c) k) (take (i + 1) all)

@@ -1,4 +1,4 @@
--- Each step goes on by one place.
+-- Each step continues by one place.
 use Rattle.std.proofs.Common.{◌-◌, length}
 use Rattle.drat_elaborate.proofs.watches.Watches.skip_unwatched.Given as goal
 

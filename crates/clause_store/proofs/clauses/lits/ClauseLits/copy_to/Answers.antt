@@ -3,7 +3,7 @@ use Rattle.std.proofs.lemmas.Bool.Decides.{nat_tests}
 use Rattle.checker_rules.specs.LiveLiterals.{live_of}
 use Rattle.clause_store.proofs.clauses.lits.ClauseLits.copy_to.Goals as goal
 
--- three literals or fewer do not stand in the buffer
+-- three literals or fewer are not in the buffer
 short : (n : ℕ) (ls : List ℕ) → length ls ≤ 3 → n ≡ n + live_of ls
 short n ls few = grind (arith, nat_tests)
 
