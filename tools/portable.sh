@@ -4,7 +4,8 @@
 #   tools/portable.sh [--built] OUT NAME..
 #   tools/portable.sh --module NAME..
 #
-# NAME is `drat_check`, `lrat_check` or `model_check`. OUT gets these forms; one that can't be made here says what is missing:
+# NAME is `drat_check`, `lrat_check` or `model_check`, or `follows_check`, `minimal_check` or `circuit_check`, which are not in the page.
+# OUT gets these forms; one that can't be made here says what is missing:
 #
 #   NAME.wasm, cefindrato.mjs   WebAssembly, and what runs it: `node cefindrato.mjs NAME WORD..`
 #   cefindrato.html             the programs in a page of one file, which needs no server
@@ -18,7 +19,7 @@
 set -euo pipefail
 
 usage() {
-  echo "usage: tools/portable.sh [--built] OUT NAME.., or --module NAME.. (drat_check, lrat_check, model_check)" >&2
+  echo "usage: tools/portable.sh [--built] OUT NAME.., or --module NAME.. (drat_check, lrat_check, model_check, follows_check, minimal_check, circuit_check)" >&2
   exit 2
 }
 is_built='' is_module='' out=''
@@ -40,10 +41,13 @@ names=("$@")
 if ((${#names[@]} == 0)); then
   usage
 fi
+shown=()
 for name in "${names[@]}"; do
-  if [[ ! $name =~ ^(drat|lrat|model)_check$ ]]; then
-    usage
-  fi
+  case $name in
+    drat_check | lrat_check | model_check) shown+=("$name") ;;
+    follows_check | minimal_check | circuit_check) ;;
+    *) usage ;;
+  esac
 done
 top=$(cd "$(dirname "$0")/.." && pwd)
 own=$top/tools/portable
@@ -205,4 +209,6 @@ for name in "${names[@]}"; do
 done
 version=$(sed -n 's/^const VERSION: &str = "\([^ "]*\).*/\1/p' "$top/crates/command/src/status.rt")
 sed "s/@VERSION@/$version/" "$own/system.mjs" "$own/node.mjs" > "$out/cefindrato.mjs"
-python3 -B "$own/page.py" "$version" "$(git -C "$top" rev-parse HEAD 2> "$work/said" || echo 'not known')" "$out" "${names[@]}" > "$out/cefindrato.html"
+if ((${#shown[@]})); then
+  python3 -B "$own/page.py" "$version" "$(git -C "$top" rev-parse HEAD 2> "$work/said" || echo 'not known')" "$out" "${shown[@]}" > "$out/cefindrato.html"
+fi
