@@ -1,7 +1,8 @@
 #!/usr/bin/env bash
-# `tools/checked` with solvers that are written here: right and wrong answers, a solver that crashes, says nothing, writes a damaged
-# proof or is killed, and a run that is interrupted; formulas as they are found; all its options. By each shell that is there, side by
-# side: `sh`, `bash`, and that of busybox, which gets no programs but those of busybox. `tests/verified.sh` has the solvers that are there.
+# `tools/checked` with solvers that are written here: right and wrong answers to formulas and to claims, a solver that crashes, says
+# nothing, writes a damaged proof or is killed, and a run that is interrupted; formulas as they are found; all its options. By each shell
+# that is there, side by side: `sh`, `bash`, and that of busybox, which gets no programs but those of busybox. `tests/verified.sh` has the
+# solvers that are there.
 #
 #   tests/checked.sh [SHELL]
 #
@@ -38,7 +39,7 @@ if (($# == 0)); then
 fi
 
 mkdir "$work/bin" "$work/room"
-for program in drat_check drat_cut lrat_check model_check; do
+for program in drat_check drat_cut lrat_check model_check follows_check circuit_check; do
   built=$top/crates/${program}_main/out/${program}_main
   if [[ ! -x $built ]]; then
     echo "not built: $built"
@@ -207,7 +208,7 @@ for option in -V --version; do
   ends 0 "$(drat_check --version | sed '1s/^drat_check/checked/')" checked "$option"
 done
 
-for rows in calls kept stopped cores; do
+for rows in calls kept stopped cores claims; do
   # shellcheck source=/dev/null
   . "$top/tests/checked/$rows.sh"
 done

@@ -78,15 +78,14 @@ printf '\x06\x00\x01\x00\x02\xaa\x90\xd4\x94\xb0\xb2\xdd\xd7\xc4\x01\xc1\x98\x8e
 printf '\x06\x00\x00\x02\x95\x98\xae\x9a\xa8\xcb\xff\xeb\x66\xfe\x90\xf4\x9d\xd0\x93\xdd\xcf\xc4\x01\x0d' >> "$work/room/four.proof"
 printf 'p cnf 2 1\n1 2 0\n' > "$work/room/one.cnf"
 printf 's SATISFIABLE\nv 1 2 0\n' > "$work/room/one.answer"
-cat > "$work/room/calls" << 'END'
-for call in varisat_check 'varisat_check four.cnf four.proof' 'varisat_check one.cnf four.proof' \
-  'drat_check four.cnf four.drat' 'drat_check one.cnf four.drat' 'lrat_check four.cnf four.lrat' 'lrat_check one.cnf four.lrat' \
-  'model_check one.cnf one.answer' 'model_check four.cnf one.answer'; do
-  line=$(./$call 2> said)
-  echo "$call: $line $?"
-done
-END
-verdicts='varisat_check: s UNSATISFIABLE 0
+printf -- '-1 -2 0\n-1 2 0\n1 -2 0\n1 2 0\n' > "$work/room/four.models"
+# two circuits of one gate, and a proof that they are the same
+printf 'aig 3 2 0 1 1\n6\n\2\2' | tee "$work/room/one.aig" > "$work/room/other.aig"
+printf -- '-5 0\n4 0\n3 0\n2 0\n0\n' > "$work/room/same.drat"
+while IFS= read -r row; do
+  [[ " ${names[*]} " != *" ${row%%[: ]*} "* ]] || echo "$row"
+done > "$work/rows" << 'END'
+varisat_check: s UNSATISFIABLE 0
 varisat_check four.cnf four.proof: s UNSATISFIABLE 0
 varisat_check one.cnf four.proof:  1
 drat_check four.cnf four.drat: s VERIFIED UNSAT 0
@@ -94,7 +93,22 @@ drat_check one.cnf four.drat:  1
 lrat_check four.cnf four.lrat: s VERIFIED UNSAT 0
 lrat_check one.cnf four.lrat:  1
 model_check one.cnf one.answer: s VERIFIED SAT 0
-model_check four.cnf one.answer: s NOT VERIFIED 3'
+model_check four.cnf one.answer: s NOT VERIFIED 3
+follows_check four.cnf one.cnf four.drat: s VERIFIED FOLLOWS 20
+follows_check one.cnf four.cnf four.drat:  1
+minimal_check four.cnf four.drat four.models: s VERIFIED MINIMAL 0
+minimal_check four.cnf four.drat one.cnf: s NOT VERIFIED 3
+circuit_check same one.aig other.aig --proof same.drat: s VERIFIED SAME 0
+circuit_check never one.aig --proof same.drat:  1
+END
+verdicts=$(< "$work/rows")
+sed 's/: .*//' "$work/rows" > "$work/room/list"
+cat > "$work/room/calls" << 'END'
+while read -r call; do
+  line=$(./$call 2> said)
+  echo "$call: $line $?"
+done < list
+END
 
 # In a root that has what Debian has below /usr, and nothing else; and in an empty folder, with a path that has `cc` and `make`
 root=$work/root

@@ -1,7 +1,7 @@
 #!/usr/bin/env bash
 # What the documents say of files: links, names, counts of lines, quotations, laws, clauses of contracts, crates, calls;
-# that the pictures are those of `crates.txt` and of the table of times, and that the page of definitions is the one of the files
-# of definitions.
+# that they have at most 30,000 words together (tests/documents/main.py says how these are counted); that the pictures are
+# those of `crates.txt` and of the table of times, and that the page of definitions is the one of the files of definitions.
 set -euo pipefail
 cd "$(dirname "$0")/.."
 python3 -B docs/picture.py --check

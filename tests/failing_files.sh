@@ -13,10 +13,13 @@ drat_check=$top/crates/drat_check_main/out/drat_check_main
 model_check=$top/crates/model_check_main/out/model_check_main
 drat_cut=$top/crates/drat_cut_main/out/drat_cut_main
 convert=$top/crates/lrat_to_proof_main/out/lrat_to_proof_main
+follows=$top/crates/follows_check_main/out/follows_check_main
+minimal=$top/crates/minimal_check_main/out/minimal_check_main
+circuit=$top/crates/circuit_check_main/out/circuit_check_main
 data=$top/tests/data
 work=$(mktemp -d)
 trap 'rm -rf "$work"' EXIT
-for program in "$check" "$hint_check" "$lrat_check" "$drat_check" "$model_check" "$drat_cut" "$convert"; do
+for program in "$check" "$hint_check" "$lrat_check" "$drat_check" "$model_check" "$drat_cut" "$convert" "$follows" "$minimal" "$circuit"; do
   if [[ ! -x $program ]]; then
     echo "not built: $program"
     exit 1
@@ -205,10 +208,10 @@ closed() {
   ) > "$work/out" 2> "$work/err" < "$work/four.cnf" || status=$?
 }
 
-# judged MASK NAME LINE WARNING: what it must have done. A line that can't be written is a fault, and standard error has that and the
-# warning.
+# judged MASK NAME LINE WARNING [STATUS]: what it must have done. A line that can't be written is a fault, and standard error has that and
+# the warning.
 judged() {
-  local wanted=0 line=$3 errors=$4
+  local wanted=${5:-0} line=$3 errors=$4
   if (($1 & 2)) && [[ $line ]]; then
     wanted=1 line='' errors='error writing: Bad file descriptor (os error 9)'${4:+$'\n'$4}
   fi
@@ -297,7 +300,7 @@ bound_reads() {
   : > nothing
   too_large 'an endless formula, by varisat_check' /dev/zero 'error reading formula' "$check" /dev/zero "$proof"
   too_large 'the same with hints' /dev/zero 'error reading formula' "$check" /dev/zero "$proof" "$work/hints"
-  too_large 'an endless formula, by hint_check' /dev/zero 'error reading formula' "$hint_check" /dev/zero nothing
+  too_large 'an endless formula, by hint_check' /dev/zero "$fault" "$hint_check" /dev/zero nothing
   for program in "$lrat_check" "$drat_check" "$model_check"; do
     too_large "an endless formula, by $program" /dev/zero "$fault" "$program" /dev/zero one
   done
@@ -422,4 +425,12 @@ counted 'long files'
 
 close_streams
 counted 'streams that are closed'
+
+# shellcheck source=/dev/null
+. "$top/tests/failing_files/claims.sh"
+fail_reads_of_claims
+fail_writes_of_claims
+close_streams_of_claims
+bound_reads_of_claims
+counted 'claims'
 exit "$wrong"

@@ -40,7 +40,7 @@ described() {
   help=$("$prefix/bin/$1" --help)
   call=$(sed 's/^usage: [a-z_]* *//;q' <<< "$help")
   options=$(list options "$help" | grep -xvE -- '--(example|help|version)' || true)
-  same "options of $1" "$(grep -oE -- '--[a-z]+' <<< "$call" || true)" "$options"
+  same "options of $1" "$(grep -oE -- '--[a-z-]+' <<< "$call" || true)" "$options"
   same "operands of $1" "$(sed 's/\[--[^]]*\]//g' <<< "$call" | grep -oE '[A-Z]+')" "$(list operands "$help")"
   same "statuses of $1" $'0\n1\n2\n3' "$(list 'exit status' "$help")"
   "$prefix/bin/$1" --example > "$work/said" 2>&1 || status=$?
@@ -71,7 +71,7 @@ for name in "${programs[@]}"; do
   described "$name"
 done
 version=$("$prefix/bin/lrat_check" --version | cut -d ' ' -f 2)
-for name in checked_all proof_picture sessions; do
+for name in checked_all circuit_sweep proof_picture sessions; do
   same "$name --version" "$name $version" "$("$prefix/bin/$name" --version)"
 done
 
@@ -121,7 +121,7 @@ for name in "${all[@]}"; do
   page=$prefix/share/man/man1/$name.1
   same "the page of $name" ".TH ${name^^} 1" "$(head -n 1 "$page" | cut -d ' ' -f 1-3)"
   if has man; then
-    text=$(MANWIDTH=200 man --warnings -l "$page" 2> "$work/warned")
+    text=$(MANWIDTH=400 man --no-hyphenation --warnings -l "$page" 2> "$work/warned")
     usage=$("$prefix/bin/$name" --help)
     usage=${usage%%$'\n'*}
     if [[ $text != *"${usage#usage: }"* || -s $work/warned ]]; then

@@ -9,7 +9,7 @@ top=$(cd "$(dirname "$0")/.." && pwd)
 data=$top/tests/data
 work=$(mktemp -d)
 trap 'rm -rf "$work"' EXIT
-for program in varisat_check drat_check lrat_check hint_check; do
+for program in varisat_check drat_check lrat_check hint_check follows_check minimal_check; do
   if [[ ! -x $top/crates/${program}_main/out/${program}_main ]]; then
     echo "not built: $program"
     exit 1
@@ -65,12 +65,14 @@ slow() {
   tail -c 1 "$1"
 }
 
-# tells NAME SETTING LINE VERDICT PROGRAM CNF PROOF OPTION..: a run over a slow proof has this verdict, and tells once or more
-# how far it has come, in lines of this pattern of grep; an empty one: it tells nothing
+# tells NAME SETTING LINE VERDICT PROGRAM CNF PROOF WORD..: a run over a slow proof has this verdict, and tells once or more
+# how far it has come, in lines of this pattern of grep; an empty one: it tells nothing. CNF may be several files.
 tells() {
-  local name=$1 program=$top/crates/$5_main/out/$5_main status=0
-  slow "$7" | env "RUST_LOG=$2" "$program" "${@:8}" "$6" - > "$work/out" 2> "$work/err" || status=$?
-  if [[ $status != 0 || $(cat "$work/out") != "$4" ]]; then
+  local name=$1 program=$top/crates/$5_main/out/$5_main status=0 wanted=0
+  [[ $5 != follows_check ]] || wanted=20
+  # shellcheck disable=SC2086 # several words
+  slow "$7" | env "RUST_LOG=$2" "$program" $6 - "${@:8}" > "$work/out" 2> "$work/err" || status=$?
+  if [[ $status != "$wanted" || $(cat "$work/out") != "$4" ]]; then
     echo "WRONG $name: status $status, output '$(cat "$work/out")'"
     wrong=1
   elif [[ -z $3 && -s $work/err ]] || [[ -n $3 ]] && { [[ ! -s $work/err ]] || grep -Evqx "$3" "$work/err"; }; then
@@ -92,6 +94,18 @@ tells lrat_unasked off '' 's VERIFIED UNSAT' lrat_check "$work"/{cnf,lrat}
 tells lrat_verbose off "$read" 's VERIFIED UNSAT' lrat_check "$work"/{cnf,lrat} --verbose
 tells lrat_logged info "\[INFO +lrat_check\] $read" 's VERIFIED UNSAT' lrat_check "$work"/{cnf,lrat}
 tells hint_verbose off "$read" 's VERIFIED UNSAT' hint_check "$work"/{cnf,lrat} --verbose
+printf 'p cnf 2 2\n1 0\n2 0\n' > "$work/claims"
+printf '1 2 0\n1 -2 0\n-1 2 0\n-1 -2 0\n' > "$work/core"
+printf -- '-1 -2 0\n-1 2 0\n1 -2 0\n1 2 0\n' > "$work/models"
+claims=('s VERIFIED FOLLOWS' follows_check "$work/cnf $work/claims" "$work/drat")
+core=('s VERIFIED MINIMAL' minimal_check "$work/core" "$work/drat" "$work/models")
+tells follows_unasked off '' "${claims[@]}"
+tells follows_quiet off '' "${claims[@]}" --quiet
+tells follows_verbose off "$read" "${claims[@]}" --verbose
+tells follows_logged info "\[INFO +follows_check\] $read" "${claims[@]}"
+tells minimal_unasked off '' "${core[@]}"
+tells minimal_verbose off "$read" "${core[@]}" --verbose
+tells minimal_logged info "\[INFO +minimal_check\] $read" "${core[@]}"
 tells varisat_verbose off "$read" 's UNSATISFIABLE' varisat_check "$data"/par10.{cnf,whole.proof} --verbose
 
 # on a terminal one line is written anew, and taken back before the verdict's

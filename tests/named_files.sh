@@ -15,7 +15,10 @@ lrat_check=$(built lrat_check)
 convert=$(built lrat_to_proof)
 drat_check=$(built drat_check)
 model_check=$(built model_check)
-for program in "$check" "$hint_check" "$lrat_check" "$convert" "$drat_check" "$model_check"; do
+follows=$(built follows_check)
+minimal=$(built minimal_check)
+circuit=$(built circuit_check)
+for program in "$check" "$hint_check" "$lrat_check" "$convert" "$drat_check" "$model_check" "$follows" "$minimal" "$circuit"; do
   if [[ ! -x $program ]]; then
     echo "not built: $program"
     exit 1
@@ -191,7 +194,7 @@ converted() {
 wants 0 's UNSATISFIABLE' '' converted
 wants 1 '' 'error writing: No space left on device (os error 28)' full "$convert" f l /dev/stdout
 # what was asked for and can't be written
-for program in "$check" "$hint_check" "$lrat_check" "$convert" "$drat_check" "$model_check"; do
+for program in "$check" "$hint_check" "$lrat_check" "$convert" "$drat_check" "$model_check" "$follows" "$minimal" "$circuit"; do
   for option in --help --version; do
     wants 1 '' 'error writing: No space left on device (os error 28)' full "$program" "$option"
   done
@@ -432,12 +435,59 @@ cp f.told f.right
 echo x >> f.told
 wants 1 '' $'formula: line 3: bad number\nin f.told\nbad number: x' "$model_check" f.told a
 
+# claims: the formula for the solver is no file that is read, nor one of standard output or error; standard input is one of two files;
+# and headers that say something else are told of, each of its file
+printf 'p cnf 2 2\n1 2 0\n-1 2 0\n' > options
+printf 'p cnf 2 1\n2 0\n' > claims
+printf 'p cnf 1 2\n1 0\n-1 0\n' > core
+printf -- '-1 0\n1 0\n' > models
+printf '0\n' > refuted
+printf '1 x 0\n' > wrong
+ln -f claims hard_claims
+ln -sf options soft_options
+for output in options claims ./claims "$PWD/options" hard_claims soft_options; do
+  wants 2 '' "cannot open $output"$'\n''the output is a file that is read' "$follows" options claims --formula "$output"
+done
+wants 2 '' $'cannot open out\nthe output is the file of standard output' "$follows" options claims --formula out
+wants 2 '' $'cannot open err\nthe output is the file of standard error' "$follows" options claims --formula err
+wants 2 '' $'cannot open -\n- is standard input, and no output' "$follows" options claims --formula -
+wants 2 '' $'cannot open absent\nNo such file or directory (os error 2)' "$follows" options absent --formula never
+wants 2 '' $'cannot open absent\nNo such file or directory (os error 2)' "$minimal" core refuted absent
+wants 2 '' $'cannot open absent\nNo such file or directory (os error 2)' "$circuit" never absent --formula never
+if [[ -e never || $(cat claims options) != $'p cnf 2 1\n2 0\np cnf 2 2\n1 2 0\n-1 2 0' ]]; then
+  echo 'WRONG a file is made or changed where an output is refused'
+  wrong=1
+fi
+for way in from piped; do
+  wants 20 's VERIFIED FOLLOWS' '' "$way" options "$follows" - claims refuted
+  wants 20 's VERIFIED FOLLOWS' '' "$way" refuted "$follows" options claims -
+  wants 0 's VERIFIED MINIMAL' '' "$way" core "$minimal" - refuted models
+  wants 0 's VERIFIED MINIMAL' '' "$way" refuted "$minimal" core - models
+done
+wants 2 '' "$no_input" closed "$follows" - claims refuted
+wants 2 '' "$no_input" closed "$minimal" core - models
+wants 2 '' "$twice" from options "$follows" - claims -
+wants 2 '' "$twice" from options "$minimal" - - models
+printf 'p cnf 1 3\n1 2 0\n-1 2 0\n' > options
+lies '1 3' '2 2' options
+wants 20 's VERIFIED FOLLOWS' "$warning" "$follows" options claims refuted
+printf 'p cnf 9 9\n2 0\n' > more
+wants 1 '' $'claims: there are fewer than the header says\nin more\n'"$warning"$'\nwarning: the header of more is p cnf 9 9, but what was read is p cnf 2 1' \
+  "$follows" options more refuted
+wants 1 '' $'formula: line 1: bad number\nin wrong\nbad number: x' "$follows" wrong claims refuted
+wants 1 '' $'claims: line 1: bad number\nin wrong\nbad number: x' "$follows" claims wrong refuted
+wants 1 '' $'formula: line 1: bad number\nin wrong\nbad number: x' "$minimal" wrong refuted models
+wants 1 '' $'models: line 1: bad number\nin wrong' "$minimal" core refuted wrong
+
 # a full disk: nothing is claimed, and no run ends well
 no_space='error writing: No space left on device (os error 28)'
 wants 1 '' "$no_space" full "$check" f p
 wants 1 '' "$no_space" full "$lrat_check" f l
 wants 1 '' "$no_space" full "$hint_check" f l
 wants 1 '' "$no_space" full "$model_check" f.right a
+wants 1 '' "$no_space" full "$follows" claims claims refuted
+wants 1 '' "$no_space" full "$minimal" core refuted models
+wants 1 '' "$no_space"$'\nin /dev/full' "$follows" claims claims --formula /dev/full
 wants 1 '' "$no_space" "$check" f p /dev/full
 wants 1 '' "$no_space" "$convert" f l /dev/full
 exit "$wrong"

@@ -117,7 +117,7 @@ if has node; then
 fi
 
 # The page: a verdict, a fault, and files that it can't take
-if has chromium && has node; then
+if [[ -f $out/cefindrato.html ]] && has chromium && has node; then
   python3 -B "$top/tests/portable/cases.py" "$top/tests/data" "$work" "${names[@]}" > "$work/cases"
   node "$top/tests/portable/page.mjs" "$out/cefindrato.html" "$pictures" < "$work/cases" || wrong=1
 fi

@@ -13,10 +13,13 @@ lrat_check=$top/crates/lrat_check_main/out/lrat_check_main
 lrat_to_proof=$top/crates/lrat_to_proof_main/out/lrat_to_proof_main
 drat_check=$top/crates/drat_check_main/out/drat_check_main
 model_check=$top/crates/model_check_main/out/model_check_main
+follows=$top/crates/follows_check_main/out/follows_check_main
+minimal=$top/crates/minimal_check_main/out/minimal_check_main
+circuit=$top/crates/circuit_check_main/out/circuit_check_main
 data=$top/tests/data
 work=$(mktemp -d)
 trap 'rm -rf "$work"' EXIT
-for program in "$rows" "$check" "$hint_check" "$lrat_check" "$lrat_to_proof" "$drat_check" "$model_check"; do
+for program in "$rows" "$check" "$hint_check" "$lrat_check" "$lrat_to_proof" "$drat_check" "$model_check" "$follows" "$minimal" "$circuit"; do
   if [[ ! -x $program ]]; then
     echo "not built: $program"
     exit 1
@@ -67,13 +70,14 @@ stopped() {
   elif ((status == 2)); then
     unread=$((unread + 1))
   else
-    ((status == 1)) && grep -qE '^((Error in proof processor|formula|proof|answer): )?out of memory$' "$work/err"
+    ((status == 1)) && grep -qE '^((Error in proof processor|formula|proof|answer|claims|models|circuit|second circuit|error writing): )?out of memory$' "$work/err"
   fi
 }
 
 # run NAME MODE LINE COMMAND..: a run that ends in the line, if no growth is refused
 run() {
-  local name=$1 mode=$2 line=$3 number unread=0
+  local name=$1 mode=$2 line=$3 number unread=0 wanted=0
+  [[ $line != 's VERIFIED FOLLOWS' ]] || wanted=20
   shift 3
   for ((number = 1; ; number++)); do
     rm -f "$work/hints"
@@ -84,7 +88,7 @@ run() {
       misjudged "$name $mode=$number"
     fi
   done
-  if [[ $status != 0 || $(cat "$work/out") != "$line" ]]; then
+  if [[ $status != "$wanted" || $(cat "$work/out") != "$line" ]]; then
     misjudged "$name without a refused growth"
   fi
   echo "$name $mode: $((number - 1)) runs, of which $unread met the reading of the arguments"
@@ -95,6 +99,7 @@ run() {
 run_logged() {
   local name=$1 line=$2 logged=$3 number unread=0 silent=0
   shift 3
+  rm -f "$work/hints"
   for ((number = 1; ; number++)); do
     RUST_LOG=info refuse FAIL_AT "$number" "$@"
     if ((refused == 0)); then
@@ -145,6 +150,15 @@ printf '5 268435456 0 1 3 0\n6 0 5 2 4 0\n' > "$work/far.lrat"
   echo "v $(seq -s ' ' 60) 0"
 } > "$work/answer"
 echo '1 2 -3 0' > "$work/unmet"
+printf 'p cnf 2 4\n1 2 0\n1 -2 0\n-1 2 0\n-1 -2 0\n' > "$work/four"
+printf 'p cnf 2 2\n1 0\n2 0\n' > "$work/claims"
+printf '1 0\n0\n' > "$work/refuted"
+printf -- '-1 -2 0\n-1 2 0\n1 -2 0\n1 2 0\n' > "$work/models"
+# two inputs, and for each the conjunction of it with its negation; two circuits of one gate
+printf 'aig 4 2 0 2 2\n6\n8\n\3\1\3\1' > "$work/never.aig"
+printf -- '-4 0\n0\n' > "$work/never"
+printf 'aig 3 2 0 1 1\n6\n\2\2' | tee "$work/one.aig" > "$work/two.aig"
+printf -- '-5 0\n0\n' > "$work/same"
 mapfile -t names < <(sed 's/: as written$//' "$work/all")
 for mode in FAIL_AT FAIL_FROM; do
   for row in "${names[@]}"; do
@@ -166,6 +180,12 @@ for mode in FAIL_AT FAIL_FROM; do
   run 'par10.lrat by lrat_to_proof' "$mode" '' "$lrat_to_proof" "$data"/par10.{cnf,lrat} "$work/bytes"
   run 'an answer' "$mode" 's VERIFIED SAT' "$model_check" "$work"/{chain.cnf,answer}
   run_unmet "$mode"
+  run 'claims' "$mode" 's VERIFIED FOLLOWS' "$follows" "$work"/{four,claims,refuted}
+  run 'a formula for the solver' "$mode" '' "$follows" "$work"/{four,claims} --formula "$work/hints"
+  run 'a core' "$mode" 's VERIFIED MINIMAL' "$minimal" "$work"/{four,refuted,models}
+  run 'a circuit' "$mode" 's VERIFIED NEVER' "$circuit" never "$work/never.aig" --proof "$work/never"
+  run 'two circuits' "$mode" 's VERIFIED SAME' "$circuit" same "$work"/{one,two}.aig --proof "$work/same"
+  run 'a formula of circuits' "$mode" '' "$circuit" same "$work"/{one,two}.aig --formula "$work/hints"
 done
 parsed=$(awk '$1 == "p" { print "Parsed formula with " $3 " variables and " $4 " clauses" }' "$data/par10.cnf")
 run_logged 'par10.whole.proof with a log' 's UNSATISFIABLE' "[INFO  varisat_checker::checker] $parsed" "$check" "$data"/par10.{cnf,whole.proof}

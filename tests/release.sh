@@ -37,10 +37,16 @@ printf '1 0\n0\n' > "$work/four.drat"
 printf '5 1 0 1 2 0\n6 0 5 3 4 0\n' > "$work/four.lrat"
 printf '1 2 0\n' > "$work/one.cnf"
 printf 's SATISFIABLE\nv 1 2 0\n' > "$work/one.answer"
+printf -- '-1 -2 0\n-1 2 0\n1 -2 0\n1 2 0\n' > "$work/four.models"
+# two circuits of one gate, and a proof that they are the same
+printf 'aig 3 2 0 1 1\n6\n\2\2' | tee "$work/one.aig" > "$work/other.aig"
+printf -- '-5 0\n4 0\n3 0\n2 0\n0\n' > "$work/same.drat"
 # calls of programs, with the verdict and the status that they have to give
 table=('drat_check four.cnf four.drat:s VERIFIED UNSAT:0' 'drat_check one.cnf four.drat::1'
-  'lrat_check four.cnf four.lrat:s VERIFIED UNSAT:0' 'model_check one.cnf one.answer:s VERIFIED SAT:0')
-all=(drat_check lrat_check model_check)
+  'lrat_check four.cnf four.lrat:s VERIFIED UNSAT:0' 'model_check one.cnf one.answer:s VERIFIED SAT:0'
+  'follows_check four.cnf one.cnf four.drat:s VERIFIED FOLLOWS:20' 'minimal_check four.cnf four.drat four.models:s VERIFIED MINIMAL:0'
+  'circuit_check same one.aig other.aig --proof same.drat:s VERIFIED SAME:0')
+all=(drat_check lrat_check model_check follows_check minimal_check circuit_check)
 
 # calls NAME..: the calls of these programs, for a shell, with PREFIX before each name
 calls() {
@@ -172,7 +178,7 @@ for program in "$work/$name-static"/bin/*_check; do
   same "what ${program##*/} loads" '' "$(readelf -d "$program" | grep NEEDED || true)"
 done
 if [[ -d $work/$name-static ]] && unshare --user --map-root-user true 2> "$work/said"; then
-  cp "$work"/four.* "$work"/one.{cnf,answer} "$work/$name-static"
+  cp "$work"/four.* "$work"/one.* "$work"/other.aig "$work"/same.drat "$work/$name-static"
   same 'in an empty root' "$(verdicts "${static[@]}")" \
     "$(PREFIX="unshare --user --map-root-user chroot $work/$name-static /bin/" bash -c "$(calls "${static[@]}")")"
 else
@@ -258,7 +264,7 @@ if [[ $bootstrap ]]; then
 fi
 if [[ -f $package && $fresh ]]; then
   cp "$package" "$fresh/package.deb"
-  cp "$work"/four.* "$work"/one.{cnf,answer} "$fresh/"
+  cp "$work"/four.* "$work"/one.* "$work"/other.aig "$work"/same.drat "$fresh/"
   chroot "$fresh" dpkg -i /package.deb > "$work/said" 2>&1 || {
     cat "$work/said"
     wrong=1

@@ -18,7 +18,7 @@ import tempfile
 
 BLOCK = re.compile(r"^```\n(\$ .*?)^```$", re.MULTILINE | re.DOTALL)
 HELP_EXAMPLE = re.compile(r"^  \S.*:\n      (\S.*)$", re.MULTILINE)
-TOOLS = ("checked", "checked_all", "cubes", "pieces", "proof_picture", "sessions", "verified")
+TOOLS = ("checked", "checked_all", "circuit_sweep", "cubes", "pieces", "proof_picture", "sessions", "verified")
 
 # Files for the calls of `--help`: a formula that can't be satisfied with its proofs, and for `model_check` one that can be.
 REFUTED = b"p cnf 2 4\n1 2 0\n1 -2 0\n-1 2 0\n-1 -2 0\n"
@@ -32,11 +32,24 @@ PROOF_BYTES = bytes.fromhex(
 # A clause, and a query that fails under the opposite assumption.
 ICNF = b"p icnf\ni 1 0\nq -1 0\ns UNSATISFIABLE\n"
 IDRUP = b"p idrup\ni 1 0\nq -1 0\ns UNSATISFIABLE\nu -1 0\n"
-CADICAL = '#!/bin/sh\nfor proof; do :; done\nproof=${proof#--proof=}\n[ "$proof" != - ] || proof=/dev/stdout\nprintf "1 0\\n0\\n" > "$proof"\nexit 20\n'
+LIDRUP = b"p lidrup\ni 1 1 0\nq -1 0\ns UNSATISFIABLE\nu -1 0 1 0\n"
+CADICAL = """#!/bin/sh
+for proof; do :; done
+proof=${proof#--proof=}
+[ "$proof" != - ] || proof=/dev/stdout
+case $* in
+  *asked.cnf*) printf -- '-5 0\\n4 0\\n3 0\\n2 0\\n0\\n' > "$proof" ;;
+  *) printf '1 0\\n0\\n' > "$proof" ;;
+esac
+exit 20
+"""
 
 
 # Two circuits of one gate, which are equal, and a proof that they are.
 CIRCUIT = b"aig 3 2 0 1 1\n6\n\x02\x02"
+# A latch that keeps its 0, and the circuit that says so.
+MACHINE = b"aig 1 0 1 1 0\n2\n2\n"
+INVARIANT = b"aig 1 1 0 1 0\n3\n"
 SAME = b"-5 0\n4 0\n3 0\n2 0\n0\n"
 
 
@@ -96,6 +109,7 @@ def furnish(room, program):
         "before.aig": CIRCUIT,
         "after.aig": CIRCUIT,
         "same.drat": SAME,
+        "asked.cnf": REFUTED,
         "core.cnf": REFUTED,
         "core.drat": DRAT,
         "models": b"-1 -2 0\n-1 2 0\n1 -2 0\n1 2 0\n",
@@ -105,6 +119,11 @@ def furnish(room, program):
         "pieces/count": b"1\n",
         "session.icnf": ICNF,
         "session.idrup": IDRUP,
+        "session.lidrup": LIDRUP,
+        "machine.aig": MACHINE,
+        "invariant.aig": INVARIANT,
+        **{f"{part}.drat": b"0\n" for part in ("init", "step", "bad")},
+        "bin/application": b"#!/bin/sh\nprintf 'p lidrup\\ni 1 1 0\\nq -1 0\\ns UNSATISFIABLE\\nu -1 0 1 0\\n'\n",
         "recorded/sessions.index": b"it.7.1\n",
         "recorded/it.7.1.icnf": ICNF,
         "recorded/it.7.1.idrup": IDRUP,
@@ -134,7 +153,7 @@ def wrong_calls(program, programs):
             furnish(room, program)
             path = os.pathsep.join((os.path.join(room, "bin"), os.path.abspath(programs), os.environ["PATH"]))
             run = subprocess.run(["bash", "-c", call], cwd=room, env={**os.environ, "PATH": path}, capture_output=True, text=True)
-            refuted = call.startswith(("checked ", "verified ")) and "--want" not in call or "| follows_check " in call
+            refuted = call.startswith(("checked ", "verified ", "circuit_sweep ")) and "--want" not in call or "| follows_check " in call
             well = run.returncode == (20 if refuted else 0)
             if not well or (run.stderr and "RUST_LOG" not in call):
                 wrong += 1

@@ -15,6 +15,9 @@ What a document can say of files, and how it is written:
 Of each crate of `crates.txt` something is said, except of programs and of tests. The README has each program as it says that it is
 called. There is one version. Words over which readers of technical English stumble are not used, in documents and in what programs
 say of themselves; fewer are checked in comments of sources, definitions and proofs.
+
+All documents together have at most 30,000 words. Documents are the files that git has by the name `*.md`. A word is what stands between
+blanks outside of fenced code blocks, as `wc -w` counts, except a bar of a table.
 """
 
 import os
@@ -34,6 +37,7 @@ DECLARED = re.compile(r"`([\w./-]+\.(?:antt|rt))`: (`\w+`(?:, `\w+`)*)")
 QUOTED = re.compile(r"^```\w+ (\S+/\S+)\n(.*?)^```$", re.MULTILINE | re.DOTALL)
 LAWS = re.compile(r"\b[Ll]aws? (`\w+`(?:(?:,| and) `\w+`)*)")
 CONTRACT = re.compile(r"((?:`[\w:]+`(?:, | and )?)+)(?: of [^:|;]*)?: ((?:`\w+`(?: \([^)]*\))?(?:, | and )?)+)")
+MOST_WORDS = 30_000
 CRATES_PAGE = "docs/reference/ARCHITECTURE.md"
 VERSION_PAGE = "crates/command/src/status.rt"
 PLAIN = {
@@ -151,6 +155,22 @@ def bad_programs():
             yield f"{place}: {fault}: {text[:60]}"
 
 
+def prose(text):
+    """The words outside of fenced code blocks, except the bars of tables."""
+    fenced = False
+    for line in text.splitlines():
+        fence = line.lstrip().startswith("```")
+        fenced ^= fence
+        if not fenced and not fence:
+            yield from (word for word in line.split() if word != "|")
+
+
+def bad_length(documents):
+    words = sum(len(list(prose(text_of(document)))) for document in documents)
+    if words > MOST_WORDS:
+        yield f"all documents have {words} words together, not at most {MOST_WORDS}"
+
+
 def columns(text, head):
     """The cells below a head of the tables."""
     at = None
@@ -232,7 +252,7 @@ def main():
         for document in documents
         for fault in faults(document, known_laws, known_contracts)
     ]
-    found += [*bad_crates(), *bad_calls(), *bad_versions(), *bad_comments(), *bad_programs()]
+    found += [*bad_length(documents), *bad_crates(), *bad_calls(), *bad_versions(), *bad_comments(), *bad_programs()]
     print(*found, sep="\n", end="\n" if found else "")
     return 1 if found else 0
 

@@ -53,6 +53,7 @@ def main(data, folder, *names):
             case("model", [], "s VERIFIED SAT", "Every assignment", drop=[["some", "s SATISFIABLE\nv 1 -2 3 0\n"], ["other", OTHER.decode()]]),
         ],
     }
+    names = [name for name in names if name in each]
     kind = {"drat_check": "drat", "lrat_check": "lrat", "model_check": "model"}[names[0]]
     second = file("second", b"1 0\n")
     made = [it for name in names for it in each[name]]

@@ -3,8 +3,8 @@
     compare.py NAME DATA FORM=COMMAND ..
 
 The first form is the proved program's. DATA is tests/data. Of the forty pairs of texts some are right, most are damaged, and in some
-the formula can be satisfied; a form that verifies one of these is wrong, whatever the others say. Besides there are calls with
-files that are not there, and with files that are written.
+the formula can be satisfied; a form that verifies one of these is wrong, whatever the others say. A program of claims gets a third text,
+which stays right. Besides there are calls with files that are not there, and with files that are written.
 """
 
 import os
@@ -17,6 +17,16 @@ import tempfile
 COUNT = 40
 DAMAGES = (b"", b"0", b" ", b"-", b"7", b"\n", b"x", b"99999999999999999999", b"\x00", b"p")
 UNSAT = b"s VERIFIED UNSAT\n"
+FOUR = b"p cnf 2 4\n1 2 0\n1 -2 0\n-1 2 0\n-1 -2 0\n"
+# two inputs and their conjunction
+CIRCUIT = b"aig 3 2 0 1 1\n6\n\2\2"
+# How a program is called with both texts, and what its third text is.
+WORDS = {
+    "follows_check": ["formula", "third", "second"],
+    "minimal_check": ["formula", "second", "third"],
+    "circuit_check": ["same", "formula", "third", "--proof", "second"],
+}
+THIRD = {"follows_check": b"p cnf 1 1\n1 0\n", "minimal_check": b"-1 -2 0\n-1 2 0\n1 -2 0\n1 2 0\n", "circuit_check": CIRCUIT}
 
 
 def read(name):
@@ -81,8 +91,12 @@ def whole(name, data, rng):
     """Pairs of texts that are right."""
     if name == "model_check":
         return [planted(rng) for _ in range(3)]
+    if name == "minimal_check":
+        return [(FOUR, b"1 0\n0\n"), (FOUR, b"a\2\0a\0"), (FOUR, b"2 0\n0\n")]
+    if name == "circuit_check":
+        return [(CIRCUIT, b"-5 0\n4 0\n3 0\n2 0\n0\n"), (CIRCUIT, b"-5 0\n0\n")]
     pairs = [(read(f"{data}/{it}.cnf"), read(f"{data}/{it}.lrat")) for it in ("board6", "par10", "grid5")]
-    if name == "drat_check":
+    if name in ("drat_check", "follows_check"):
         steps = [list(drat_of(*pair)) for pair in pairs]
         made = [(text_drat, 0), (binary_drat, 1), (text_drat, 2), (binary_drat, 2)]
         return [(pairs[i][0], make(steps[i])) for make, i in made]
@@ -105,8 +119,8 @@ def cases(name, data, rng):
     for cnf, second in right:
         made.append(((cnf, second[: len(second) // 2]), name == "model_check"))
         made.append(((second, cnf), False))
-        made.append(((planted(rng)[0], second), True))
-    made += [((b"", b""), True), (right[0][:1] * 2, False)]
+        made.append(((planted(rng)[0], second), name not in THIRD))
+    made += [((b"", b""), name not in THIRD), (right[0][:1] * 2, False)]
     while len(made) < COUNT:
         made.append((damaged(rng.choice(right), rng), False))
     return made
@@ -116,6 +130,12 @@ def calls(name):
     """Calls that are made over a pair that is right. Where a word is `-`, standard input is the file that is meant."""
     made = [["--version"], ["--example"], [], ["formula", "none"], ["formula", "."], ["none", "second"]]
     made += [["-", "second"], ["formula", "-"], ["-", "-"], ["-", "none"]]
+    if name in THIRD:
+        made += [[*WORDS[name], "more"], [it if it != "third" else "none" for it in WORDS[name]]]
+    if name == "follows_check":
+        made += [["formula", "third", "--formula", "written"], ["formula", "third", "--formula", "third"]]
+    if name == "circuit_check":
+        made += [["same", "formula", "third", "--formula", "written"], ["never", "formula", "--formula", "formula"]]
     if name == "drat_check":
         made += [["formula", "second", "--lrat", "written"], ["formula", "second", "--lrat", "second"], ["formula", "second", "--lrat", "-"]]
     return made
@@ -129,7 +149,7 @@ class Forms:
         self.forms = [form.split("=", 1) for form in forms]
 
     def put(self, pair):
-        for file, text in zip(("formula", "second"), pair):
+        for file, text in zip(("formula", "second", "third"), (*pair, THIRD.get(self.name, b""))):
             with open(f"{self.work}/{file}", "wb") as it:
                 it.write(text)
 
@@ -161,8 +181,8 @@ def main(name, data, *forms):
         all_forms = Forms(name, forms, work)
         for at, (pair, satisfiable) in enumerate(cases(name, data, rng)):
             all_forms.put(pair)
-            all_forms.compare(f"text {at}", ["formula", "second"], satisfiable)
-        if not {0, 1} <= all_forms.statuses.keys():
+            all_forms.compare(f"text {at}", WORDS.get(name, ["formula", "second"]), satisfiable)
+        if not {20 if name == "follows_check" else 0, 1} <= all_forms.statuses.keys():
             all_forms.wrong = 1
             print(f"{name}: the texts show too little, statuses {all_forms.statuses}")
         all_forms.put(whole(name, data, rng)[0])
