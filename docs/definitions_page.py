@@ -1,9 +1,11 @@
-"""Writes docs/DEFINITIONS.md: what `s VERIFIED UNSAT` means, as one page of the definitions that `IsRefuted` reaches.
+"""Writes docs/DEFINITIONS.md: what `s VERIFIED UNSAT` means, as one page of the definitions that `IsRefuted` reaches; and what the
+lines of claims mean, by the definitions that theirs reach beyond these.
 
     python3 docs/definitions_page.py             writes the page
     python3 docs/definitions_page.py --check     says whether the page is the one that would be written, and writes nothing
 
-A name is looked up as its file has it: declared there, or by its lines `use`. A constructor stands for its whole data type.
+A name is looked up as its file has it: declared there, or by its lines `use`. A constructor stands for its whole data type. Of the
+lines of claims, what a text says is no part of the page: it names the files.
 """
 
 import os
@@ -13,6 +15,16 @@ import sys
 os.chdir(os.path.join(os.path.dirname(os.path.abspath(__file__)), ".."))
 PAGE = "docs/DEFINITIONS.md"
 FIRST = ("crates/sat_formula/specs/Refuted.antt", "IsRefuted")
+CLAIMS = {
+    "FOLLOWS": ("crates/follows_check/specs/Texts.antt", "FollowsText"),
+    "NOT FOLLOWS": ("crates/follows_check/specs/Texts.antt", "NotFollowsText"),
+    "MINIMAL": ("crates/follows_check/specs/Minimal.antt", "IsMinimalText"),
+    "NEVER": ("crates/circuit_check/specs/Claims.antt", "IsNeverText"),
+    "SAME": ("crates/circuit_check/specs/Claims.antt", "IsSameText"),
+    "SAFE": ("crates/circuit_check/specs/Claims.antt", "IsSafeText"),
+}
+# What is not followed: what a text is read as.
+READ = ("crates/circuit_text/specs/Aigers.antt", "crates/whole_formulas/specs/Lies.antt", "crates/sat_formula/specs/")
 
 DECLARED = re.compile(r"(?:abbrev|unfoldable) pub (\w+) :|pub (?:data|record) (\w+)\b")
 CONSTRUCTOR = re.compile(r"  (\w+) : ")
@@ -23,15 +35,15 @@ VARIANT = re.compile(r"^    (\w+)(\([^)]*\))?,$", re.MULTILINE)
 HEAD = """# What `s VERIFIED UNSAT` means, whole
 
 This page is all that the line claims: the {count} definitions that `IsRefuted` reaches, {lines} lines with their comments. \
-`docs/definitions_page.py` makes it from the files that it names. What is proved about the claim, and what you trust, is in \
+`docs/definitions_page.py` makes it. What is proved about the claim, and what you trust, is in \
 [TRUST.md](TRUST.md). `docs/definitions.py` has the same definitions in Python, to run on your own texts.
 
 ## Notation
 
 | written | is |
 |---|---|
-| `f : A → B → C` | the type of a function `f` from an `A` and a `B` to a `C`. `f x y` is its value; `(f x) y` is the same |
-| `abbrev pub f`, `unfoldable pub f` | a definition. The lines below it are its equations, one for each form of the arguments |
+| `f : A → B → C` | the type of a function from an `A` and a `B` to a `C`; `f x y` is its value |
+| `abbrev pub f`, `unfoldable pub f` | a definition, by the equations below it, one for each form of the arguments |
 | `ℕ`, `Bool`, `Option A` | the numbers 0, 1, 2 and so on; `true` or `false`; `None`, or `Some` of an `A` |
 | `List A`, `[]`, `x ∷ xs`, `xs ++ ys` | lists; the empty list; `x` in front of the list `xs`; two lists, concatenated |
 | `λ x. E` | the function from `x` to `E` |
@@ -39,7 +51,7 @@ This page is all that the line claims: the {count} definitions that `IsRefuted` 
 | `(x : A) × P` | there is an `x` with the property `P`. The proof contains it |
 | `(x : A) → P` | every `x` has the property `P` |
 | `x ≡ y` | a claim: both are equal. `x == y` compares two numbers and is `true` or `false` |
-| `data T where A : T` | a type with the values listed below it and no others |
+| `data T where A : T` | a type with only the values listed below it |
 | `m / 2`, `m % 2`, `2 ^ 28`, `m - n` | quotient, remainder, power, and difference, which is 0 if `n` is greater |
 
 From the library: `list_any p xs` and `list_all p xs`: some element, every element passes the test `p`. `filter p xs`: the elements that \
@@ -51,6 +63,14 @@ reader's code:
 A literal is a code: twice the index of its variable, plus 1 if it is negative. An assignment maps each index to `true` or `false`.
 
 ## The definitions
+"""
+
+CLAIMS_HEAD = """
+# What the lines of claims mean
+
+Each is the definition in its contract, with all that it reaches and that is not above, except how a text is read: a formula's as above, \
+its header by `crates/whole_formulas/specs/Lies.antt`, a circuit's by `crates/circuit_text/specs/Aigers.antt`. A record holds if all its \
+fields do; a field that is no claim, as `clauses`, exists.
 """
 
 
@@ -90,13 +110,13 @@ class File:
         return path, files[path].constructors.get(name, name)
 
 
-def reached(files):
+def reached(files, first, is_left_out=lambda path: False):
     """All definitions that the first one reaches, by their files in the order in which these are met."""
-    found, left = [], [FIRST]
-    files[FIRST[0]] = File(FIRST[0])
+    found, left = [], [first]
+    files.setdefault(first[0], File(first[0]))
     while left:
         at = left.pop(0)
-        if at in found:
+        if at in found or is_left_out(at[0]):
             continue
         found.append(at)
         path, name = at
@@ -112,9 +132,21 @@ def enum(path, name):
     return f"- `{name}`, in `{path}`: `{variants}`\n"
 
 
+def claims(files, above):
+    """A part for each line of a claim, with the definitions that are not above it."""
+    found = set(above)
+    for line, first in CLAIMS.items():
+        yield f"\n## `s VERIFIED {line}`\n"
+        new = [it for it in reached(files, first, lambda path: path.startswith(READ)) if it not in found]
+        found.update(new)
+        for path in dict.fromkeys(path for path, _ in new):
+            mine = [text for name, text in files[path].definitions.items() if (path, name) in new]
+            yield f"\n`{path}`:\n\n```text\n" + "\n\n".join(mine) + "\n```\n"
+
+
 def page():
     files = {}
-    found = reached(files)
+    found = reached(files, FIRST)
     blocks = []
     lines = 0
     for path in dict.fromkeys(path for path, _ in found):
@@ -123,6 +155,7 @@ def page():
         others = len(files[path].definitions) - len(mine)
         more = f" Not reached: {others} more." if others else ""
         blocks.append(f"\n`{path}`:{more}\n\n```text\n" + "\n\n".join(mine) + "\n```\n")
+    blocks += [CLAIMS_HEAD, *claims(files, found)]
     enums = enum("crates/sat_formula/src/word.rt", "Token") + enum("crates/sat_formula/src/fault.rt", "DimacsKind")
     return HEAD.format(count=len(found), lines=lines, enums=enums) + "".join(blocks)
 

@@ -23,12 +23,13 @@ WAYS = {
     "model_check": ("answer_text", "model_check"),
     "follows_check": ("drat_text", "drat_elaborate", "lrat_checker", "follows_check"),
     "minimal_check": ("drat_text", "drat_elaborate", "lrat_checker", "follows_check"),
+    "session_check": ("session_text", "session_checker", "session_check"),
     "drat_cut": ("drat_text", "drat_cut"),
     "lrat_to_proof": ("lrat_text", "lrat_to_proof"),
 }
 
 # The crates that decide. A way without one ends in the crate that takes the formula.
-DECIDING = ("lrat_checker", "hint_checker", "varisat_checker", "model_check")
+DECIDING = ("lrat_checker", "hint_checker", "varisat_checker", "model_check", "session_checker")
 
 # What a program writes in addition to its verdict: by which crate, which text, and for whom.
 WRITERS = {
@@ -43,6 +44,7 @@ FILES = {
     "PROOF": "proof bytes",
     "ANSWER": "answer",
     "drat_check PROOF": "DRAT or FRAT",
+    "session_check PROOF": "LIDRUP text",
 }
 
 WIDTH = 1120
@@ -107,7 +109,7 @@ def has_contracts(crate):
 
 def verdicts():
     """The line of each program's verdict, by the headings of TRUST.md."""
-    headings = re.findall(r"^## `(s [^`]+)` by `(\w+)`$", text_of("docs", "TRUST.md"), re.MULTILINE)
+    headings = re.findall(r"^## `(s [^`]+|all answers are shown)` by `(\w+)`$", text_of("docs", "TRUST.md"), re.MULTILINE)
     return {program: line for line, program in headings}
 
 
@@ -175,12 +177,12 @@ def way_of(program, crate, listed):
 
 
 def draw_way(drawing, y, program, words, way, line, read):
-    """The files of a program, the way of its proof, and its end. Gives where the formula joins."""
+    """The files of a program, the way of its proof, and its end. Gives where the formula joins, if there is one."""
     files = [
         FILES.get(f"{program} {word}", FILES.get(word, word.lower())) for word in words if re.fullmatch("[A-Z]+", word)
     ]
     taker = next((crate for crate in way if crate in DECIDING), way[-1])
-    x = drawing.box(28, y, files[1], "file")
+    x = drawing.box(28, y, files[min(1, len(files) - 1)], "file")
     for crate in way:
         # the formula comes from the left, so what takes it stands further on
         start = max(x + GAP, FORMULA_END + GAP) if crate == taker else x + GAP
@@ -193,7 +195,7 @@ def draw_way(drawing, y, program, words, way, line, read):
         drawing.box(x + GAP, y, line, "verdict")
     else:
         drawing.box(x + GAP, y, files[-1], "file")
-    return joins
+    return joins if len(files) > 1 else None
 
 
 def draw_writer(drawing, y, program, joins, read):
@@ -217,10 +219,11 @@ def draw_lane(drawing, y, crate, listed, shared, read):
     drawing.add(f'<rect x="14" y="{y}" {size} rx="8" fill="#fafafa" stroke="#cccccc"/>')
     drawing.text(28, y + 31, program, "title")
     joins = draw_way(drawing, y + 54, program, words, way, line, read)
-    x = drawing.box(FORMULA, y + 12, FILES["CNF"], "file")
-    drawing.arrow((x, y + 26), (x + GAP, y + 26))
-    x = drawing.box(x + GAP, y + 12, "sat_formula", kind_of("sat_formula", read))
-    drawing.arrow((x, y + 26), (joins, y + 26), (joins, y + 52))
+    if joins:
+        x = drawing.box(FORMULA, y + 12, FILES["CNF"], "file")
+        drawing.arrow((x, y + 26), (x + GAP, y + 26))
+        x = drawing.box(x + GAP, y + 12, "sat_formula", kind_of("sat_formula", read))
+        drawing.arrow((x, y + 26), (joins, y + 26), (joins, y + 52))
     if program in WRITERS:
         draw_writer(drawing, y + 96, program, joins, read)
     shown = {*way, *shared, *WRITERS.get(program, ())}
