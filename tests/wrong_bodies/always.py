@@ -90,13 +90,14 @@ def write_holes(crate, names, room):
 
 def check(crate, names, room, alone):
     """Checks the copies, and beside them those that are no copies, which nothing here calls: each is changed where it is."""
-    write_holes(os.path.basename(crate), {it.rpartition("::")[2] for it in names}, room)
+    asked = names + [it.name for it in alone]
+    write_holes(os.path.basename(crate), {it.rpartition("::")[2] for it in asked}, room)
     for file, old, new in (pair for it in alone for pair in it.pairs):
         with open(f"{room}/{file}", encoding="utf-8") as source:
             text = source.read()
         with open(f"{room}/{file}", "w", encoding="utf-8") as to:
             to.write(text.replace(old, new))
-    told = toolchain.check_past_holes(crate, names + [it.name for it in alone], room)
+    told = toolchain.check_past_holes(crate, asked, room)
     read_judgements(told, alone)
     return told
 

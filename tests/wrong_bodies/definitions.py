@@ -2,7 +2,7 @@
 
 Each is turned in a copy of the repository, and the crate of rows is checked over it. A crate that has laws alone is copied without
 them, so that what refuses is a row, which is computed on the definition, and not the written proof of a law, which may merely no
-longer fit.
+longer fit. A definition of a format that is not below `definition_rows` is asked of the rows of its own crate, which are its laws.
 
 `crates/definition_rows/REFUSED` has a line for each: its sum, over its own text, the file that it turns, and the rows; its name; and
 the functions that were not proved. It exits 1 if one is proved, or was not judged.
@@ -32,9 +32,12 @@ class Turned:
         said = dict(re.findall(r"(?m)^(file|old|new): ?(.*)$", text))
         self.file, self.old, self.new = said["file"].strip(), said["old"], said["new"]
         self.text, self.crate = text, self.file.split("/")[1]
+        self.rows = ROWS if self.crate in crates_below(ROWS) else self.crate
 
     def sum(self):
-        rows = {os.path.relpath(it, CRATE): words_of(it) for it in files_in(f"{CRATE}/src", f"{CRATE}/specs")}
+        crate = f"{ROOT}/crates/{self.rows}"
+        files = files_in(f"{crate}/src", f"{crate}/specs") if self.rows == ROWS else [f"{crate}/specs/Rows.antt"]
+        rows = {os.path.relpath(it, crate): words_of(it) for it in files}
         return sum_over({**rows, "it": words_in(self.text), "file": words_of(f"{ROOT}/{self.file}")})[:16]
 
     def write(self, room):
@@ -74,9 +77,9 @@ def leave_out_laws(room, crate):
         file.write("//! Definitions alone.\n#![tactic(auto)]\n")
 
 
-def copy_crates(room):
-    """Copies the crate of rows and those below it, with what their checks have kept."""
-    copied = [*crates_below(ROWS), ROWS]
+def copy_crates(room, rows):
+    """Copies a crate of rows and those below it, with what their checks have kept."""
+    copied = [*crates_below(rows), rows]
     for crate in copied:
         unread = shutil.ignore_patterns("must-fail", "wrong-bodies")
         shutil.copytree(f"{ROOT}/crates/{crate}", f"{room}/crates/{crate}", ignore=unread, copy_function=name_or_copy)
@@ -84,25 +87,31 @@ def copy_crates(room):
         to.writelines(line for line in file if line.partition(":")[0].split()[:1] in [[it] for it in copied])
 
 
+def check(rows, top, told):
+    """Checks the rows of a crate in the tree of this top, and returns what came of it."""
+    only = [] if rows == ROWS else ["--only", "laws"]
+    return subprocess.run(
+        ["rt", "check", "--jobs", "1", *only],
+        cwd=f"{top}/crates/{rows}",
+        stdin=subprocess.DEVNULL,
+        stdout=told,
+        stderr=subprocess.STDOUT,
+        encoding="utf-8",
+        errors="replace",
+    )
+
+
 def try_one(turned):
     """Returns the functions that the turned definition leaves without a proof, and why it was not judged."""
     with tempfile.TemporaryDirectory(prefix="wrong-definitions-") as room:
-        copy_crates(room)
+        copy_crates(room, turned.rows)
         why = turned.write(room)
         if why:
             return [], why
-        for crate in [*crates_below(ROWS)]:
+        for crate in crates_below(turned.rows):
             if has_laws_alone(crate) and turned.crate in [*crates_below(crate), crate]:
                 leave_out_laws(room, crate)
-        told = subprocess.run(
-            ["rt", "check", "--jobs", "1"],
-            cwd=f"{room}/crates/{ROWS}",
-            stdin=subprocess.DEVNULL,
-            stdout=subprocess.PIPE,
-            stderr=subprocess.STDOUT,
-            encoding="utf-8",
-            errors="replace",
-        )
+        told = check(turned.rows, room, subprocess.PIPE)
     refused = re.findall(r"(?m)^fn (\S+): (?:not proved|no proof)", told.stdout)
     if told.returncode and not refused:
         return [], told.stdout[-600:]
@@ -120,9 +129,10 @@ def noted():
 def try_all(names):
     """Tries these definitions, or all, notes those that were refused, and returns 1 if another one is left."""
     chosen = [it for it in definitions() if not names or it.name in names]
-    if subprocess.run(["rt", "check", "--jobs", "1"], cwd=CRATE, stdout=subprocess.DEVNULL).returncode:
-        print(f"{ROWS} is not proved as it stands")
-        return 1
+    for rows in sorted({it.rows for it in chosen}):
+        if check(rows, ROOT, subprocess.DEVNULL).returncode:
+            print(f"{rows} is not proved as it stands")
+            return 1
     lines, wrong = noted(), 0
     with concurrent.futures.ThreadPoolExecutor(LANES) as pool:
         for turned, (refused, why) in zip(chosen, pool.map(try_one, chosen)):
@@ -134,7 +144,7 @@ def try_all(names):
                 lines[turned.name] = f"{turned.sum()} {turned.name}: {' '.join(refused)}\n"
             with open(RECORD, "w", encoding="utf-8") as file:
                 file.writelines(lines[it.name] for it in definitions() if it.name in lines)
-    print(f"{ROWS}: {len(chosen)} turned definitions tried")
+    print(f"{len(chosen)} turned definitions tried")
     return wrong
 
 

@@ -4,3 +4,4 @@ pub mod NumberLemmas
 pub mod FrontLemmas
 pub mod LookLemmas
 pub mod ReaderLemmas
+pub mod RowsFacts

@@ -10,3 +10,4 @@ pub mod Reading
 pub mod NextStep
 pub mod DratRules
 pub mod DratSteps
+pub mod Rows

@@ -16,6 +16,7 @@ mod drat_reader;
 pub mod fault;
 #[doc(hidden)]
 pub mod grammar;
+pub mod laws;
 #[doc(hidden)]
 pub mod number;
 #[doc(hidden)]

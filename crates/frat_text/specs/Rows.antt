@@ -23,21 +23,30 @@ pub record FratRows : Type 0 where
   pub renamed : outcome_of frat (codes "r 1 7 2 8 0\n")
       ≡ (renames (record { from = 1; to = 7 } ∷ record { from = 2; to = 8 } ∷ []) ∷ [], Ended)
   pub comments : outcome_of frat (codes "c x .\no1\n2\n0\nc") ≡ (clause Original 1 (2 ∷ []) ∷ [], Ended)
+  pub hints_alone : outcome_of frat (codes "l 0 d 7 0\n") ≡ (hints [] ∷ clause Delete 7 [] ∷ [], Ended)
+  pub largest_id : outcome_of frat (codes "f 1152921504606846975 0")
+      ≡ (clause Final 1152921504606846975 [] ∷ [], Ended)
+  pub percent_sign : outcome_of frat (codes "% x\no 1 1 0\n") ≡ ([], Faulty Malformed)
+  pub negative_id : outcome_of frat (codes "o 1 1 0\nd -1 1 0\n")
+      ≡ (clause Original 1 (0 ∷ []) ∷ [], Faulty Malformed)
   pub no_id : outcome_of frat (codes "o 0 1 0") ≡ ([], Faulty Malformed)
   pub half_a_pair : outcome_of frat (codes "r 1 0") ≡ ([], Faulty Malformed)
   pub no_letter : outcome_of frat (codes "1 2 0") ≡ ([], Faulty Malformed)
   pub large_id : outcome_of frat (codes "o 1152921504606846976 0") ≡ ([], Faulty NumberTooLarge)
   pub cut_off : outcome_of frat (codes "a 1 2 0\nl ") ≡ (clause Add 1 (2 ∷ []) ∷ [], Faulty Unfinished)
   pub binary : outcome_of frat (111 ∷ 1 ∷ 2 ∷ 5 ∷ 0 ∷ []) ≡ (clause Original 1 (0 ∷ 3 ∷ []) ∷ [], Ended)
-  pub binary_hints : outcome_of frat (97 ∷ 131 ∷ 1 ∷ 0 ∷ 108 ∷ 2 ∷ 5 ∷ 0 ∷ [])
+  pub binary_hints : outcome_of frat (97 ∷ 131 ∷ 1 ∷ 127 ∷ 0 ∷ 108 ∷ 2 ∷ 5 ∷ 0 ∷ [])
       ≡ (
-        clause Add 131 []
+        clause Add 131 (125 ∷ [])
             ∷ hints (record { id = 1; is_negative = false } ∷ record { id = 2; is_negative = true } ∷ []) ∷ [],
         Ended,
       )
   pub binary_names : outcome_of frat (114 ∷ 1 ∷ 7 ∷ 130 ∷ 1 ∷ 8 ∷ 0 ∷ [])
       ≡ (renames (record { from = 1; to = 7 } ∷ record { from = 130; to = 8 } ∷ []) ∷ [], Ended)
   pub minus_zero : outcome_of frat (97 ∷ 1 ∷ 1 ∷ 0 ∷ []) ≡ ([], Faulty Malformed)
+  pub ten_bytes : outcome_of frat
+      (97 ∷ 129 ∷ 128 ∷ 128 ∷ 128 ∷ 128 ∷ 128 ∷ 128 ∷ 128 ∷ 128 ∷ 0 ∷ 0 ∷ [])
+      ≡ ([], Faulty NumberTooLarge)
   pub told : is_frat (codes "\n\tc 1 0\no 1 1 0\n") ≡ true
   pub not_told : is_frat (codes "c o\nd 1 0\n") ≡ false
   pub no_step : is_frat (codes "c o 1 0") ≡ false

@@ -6,6 +6,7 @@
 #![tactic(auto)]
 
 mod draft;
+pub mod laws;
 mod reader;
 mod step;
 mod telling;

@@ -6,3 +6,4 @@ pub mod TellLemmas
 pub mod FirstLemmas
 pub mod ReadLemmas
 pub mod GivenLines
+pub mod RowsFacts

@@ -9,3 +9,4 @@ pub mod NextLine
 pub mod Telling
 pub mod First
 pub mod Proofs
+pub mod Rows

@@ -7,6 +7,7 @@ mod draft;
 mod fault;
 mod first;
 mod ids;
+pub mod laws;
 mod number;
 mod proof;
 mod reader;

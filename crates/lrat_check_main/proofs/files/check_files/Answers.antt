@@ -1,7 +1,7 @@
 use Rattle.std.proofs.Common.{◌≡◌, subst, Result, IfOk}
 use Rattle.std.specs.Io.KnownBytes.{Appends}
 use Rattle.lrat_check.specs.declared.fault.RunFault.{RunFault}
-use Rattle.lrat_check_main.proofs.StatusLemmas.{status_zero}
+use Rattle.verdicts.proofs.StatusLemmas.{status_zero}
 use Rattle.lrat_check_main.proofs.files.check_files.Goals as goal
 use Rattle.verdicts.specs.Statuses.{status_of}
 use Rattle.verdicts.specs.Verdicts.{shown_line, shows_unsat}
