@@ -37,6 +37,11 @@ says 0 $'q 1 satisfiable: shown\nall answers are shown: 1 satisfiable, 0 unsatis
 sed 's/^m -1 2/m -1 -2/' one.lidrup > wrong.lidrup
 says 3 $'q 1 satisfiable: not shown: the model has no literal of a clause\n1 of 1 answers are not shown' session_check wrong.lidrup --alone
 says 2 $'cannot open none\nNo such file or directory (os error 2)' session_check --alone none
+# where descriptor 0 is closed
+closed() {
+  "$@" <&-
+}
+says 2 $'cannot open -\nBad file descriptor (os error 9)' closed session_check --alone -
 usage=$'usage: session_check --alone PROOF\nsession_check --help says more'
 says 2 $'--alone and PROOF\n'"$usage" session_check one.lidrup
 says 2 $'--alone and PROOF\n'"$usage" session_check --alone

@@ -1,11 +1,16 @@
--- What a session was asked so far, and its reports.
-use Rattle.std.proofs.Common.{◌≡◌, ℕ, List, [], ◌∷◌, ◌++◌, Option, None, Some, refl, sym, ap, ◌∙◌, append-nil, subst}
+-- What a session was asked and answered so far, and its reports.
+use Rattle.std.proofs.Common.{◌≡◌, ℕ, List, [], ◌∷◌, ◌++◌, Option, None, Some, refl, sym, ap, ◌∙◌, append-nil, append_assoc, subst}
 use Rattle.session_text.specs.declared.line.LineKind.{LineKind}
 use Rattle.session_text.specs.declared.line.LineKind.TheVariants.{Answer, Clause, Core, Deletion, Lemma, Model, Query, Trail, Weakening}
+use Rattle.session_text.specs.declared.line.Status.{Status}
+use Rattle.session_text.specs.declared.line.Status.TheVariants.{Satisfiable, Unknown, Unsatisfiable}
 use Rattle.session_text.specs.Content.{Content}
 use Rattle.session_text.specs.Texts.{Line}
-use Rattle.session_check.specs.Progress.{AllShown, Asked, Closes, Interaction, IsShown, Progress, Takes, interact, with_line, with_lines}
-use Rattle.session_check.specs.Runs.{Told, tell, tell_all}
+use Rattle.session_check.specs.Interactions.{AllShown, Asked, Interaction, IsAnswer, IsShown, answer_to, interact, with_line, with_lines}
+use Rattle.session_check.specs.Progress.{Answers, Closes, Cores, IsUnanswered, Models, Pending, Plays, Progress, Stays, Takes, answer_report, answered, asked, ended, pending_after, said, settled, with_report}
+use Rattle.session_check.specs.Runs.{ShowsBut, Told, listed, tell, tell_all}
+use Rattle.session_check.specs.declared.report.Reason.{Reason}
+use Rattle.session_check.specs.declared.report.Reason.TheVariants.{NoConclusion}
 use Rattle.session_check.specs.declared.report.Report.{Report}
 
 -- ---- one more
@@ -26,70 +31,187 @@ shown_more [] (x ∷ rs) q r all s = absurd all
 shown_more (p ∷ qs) [] q r all s = absurd all
 shown_more (p ∷ qs) (x ∷ rs) q r all s = (all.0, shown_more qs rs q r all.1 s)
 
+-- nothing is claimed of an answer that is not shown
+not_shown : (q : Asked) (status : Status) (reason : Reason) → IsAnswer q status (Some reason)
+not_shown q Satisfiable reason = tt
+not_shown q Unsatisfiable reason = tt
+not_shown q Unknown reason = tt
+
 -- ---- where a session stands
 
--- the query that has no report yet
-abbrev pub open_asked : List (List ℕ) → Option (List ℕ) → List Asked
-open_asked given None = []
-open_asked given (Some assumed) = record { given = given; assumed = assumed } ∷ []
+-- the answered query that has no report yet
+abbrev pub unreported_in : List (List ℕ) → Pending → Option Asked
+unreported_in given settled = None
+unreported_in given (asked assumed) = None
+unreported_in given (answered assumed status) = Some (record { given = given; assumed = assumed; status = status })
 
--- all queries but the open one have true reports
+-- what the query assumed that has no answer yet
+abbrev pub unanswered_in : Pending → Option (List ℕ)
+unanswered_in settled = None
+unanswered_in (asked assumed) = Some assumed
+unanswered_in (answered assumed status) = None
+
+-- all answered queries but the pending one have true reports
 pub record Stands (a : Interaction) (rs : List Report) (p : Progress) : Type 0 where
   pub reported : List Asked
-  pub all : a.queries ≡ reported ++ open_asked p.given p.pending
+  pub queries : a.queries ≡ reported ++ listed (unreported_in p.given p.pending)
   pub shown : AllShown reported rs
   pub given : a.given ≡ p.given
+  pub unanswered : a.unanswered ≡ unanswered_in p.pending
 
--- with a report, or none
-abbrev pub with_report : List Report → Option Report → List Report
-with_report rs None = rs
-with_report rs (Some r) = rs ++ r ∷ []
-
-pub stands_closed : (a : Interaction) (rs : List Report) (p : Progress) (r : Option Report) (q : Progress) → Stands a rs p → Closes p r q → Stands a (with_report rs r) q
-stands_closed a rs p None q s c = subst (Stands a rs) (sym c) s
-stands_closed a rs p (Some r) q s c =
-    let asked : Asked = record { given = p.given; assumed = c.0 } in
-    subst (Stands a (rs ++ r ∷ [])) (sym c.2) (record {
-      reported = s.reported ++ asked ∷ [];
-      all = s.all ∙ ap (λ (o : Option (List ℕ)). s.reported ++ open_asked p.given o) c.1 ∙ sym (append-nil (s.reported ++ asked ∷ []));
-      shown = shown_more s.reported rs asked r s.shown c.3;
+-- the pending query gets its report
+reported_on : (a : Interaction) (rs : List Report) (p : Progress) (r : Report) (assumed : List ℕ) (status : Status) → Stands a rs p → p.pending ≡ answered assumed status
+    → IsShown (record { given = p.given; assumed = assumed; status = status }) r → Stands a (rs ++ r ∷ []) (ended p)
+reported_on a rs p r assumed status s e shown =
+    let q : Asked = record { given = p.given; assumed = assumed; status = status } in
+    record {
+      reported = s.reported ++ q ∷ [];
+      queries = s.queries ∙ ap (λ (o : Pending). s.reported ++ listed (unreported_in p.given o)) e ∙ sym (append-nil (s.reported ++ q ∷ []));
+      shown = shown_more s.reported rs q r s.shown shown;
       given = s.given;
-    })
+      unanswered = s.unanswered ∙ ap unanswered_in e;
+    }
 
-given_on : (a : Interaction) (rs : List Report) (lits : List ℕ) (p q : Progress) → Stands a rs p → p.pending ≡ None → q ≡ record { given = p.given ++ lits ∷ []; pending = None }
-    → Stands (interact a Clause lits) rs q
-given_on a rs lits p q s none e = subst (Stands (interact a Clause lits) rs) (sym e) (record {
+pub stands_closed : (a : Interaction) (rs : List Report) (p : Progress) (r : Option Report) → Stands a rs p → Closes p.pending r → Stands a (with_report rs r) (ended p)
+stands_closed a rs p None s c = record {
   reported = s.reported;
-  all = s.all ∙ ap (λ (o : Option (List ℕ)). s.reported ++ open_asked p.given o) none;
+  queries = s.queries ∙ ap (λ (o : Pending). s.reported ++ listed (unreported_in p.given o)) c;
   shown = s.shown;
-  given = ap (λ (cs : List (List ℕ)). cs ++ lits ∷ []) s.given;
+  given = s.given;
+  unanswered = s.unanswered ∙ ap unanswered_in c;
+}
+stands_closed a rs p (Some r) s c =
+    let q : Asked = record { given = p.given; assumed = c.0; status = r.status } in
+    reported_on a rs p r c.0 r.status s c.1 (refl, subst (IsAnswer q r.status) (sym c.2) (not_shown q r.status NoConclusion))
+
+given_on : (a : Interaction) (rs : List Report) (lits : List ℕ) (p q : Progress) → Stands a rs (ended p) → q.given ≡ p.given ++ lits ∷ [] → q.pending ≡ settled
+    → Stands (interact a Clause lits) rs q
+given_on a rs lits p q s g e = record {
+  reported = s.reported;
+  queries = s.queries ∙ sym (ap (λ (o : Pending). s.reported ++ listed (unreported_in q.given o)) e);
+  shown = s.shown;
+  given = ap (λ (cs : List (List ℕ)). cs ++ lits ∷ []) s.given ∙ sym g;
+  unanswered = s.unanswered ∙ sym (ap unanswered_in e);
+}
+
+asked_on : (a : Interaction) (rs : List Report) (lits : List ℕ) (p q : Progress) → Stands a rs (ended p) → q ≡ record p { pending = asked lits }
+    → Stands (interact a Query lits) rs q
+asked_on a rs lits p q s e = subst (Stands (interact a Query lits) rs) (sym e) (record {
+  reported = s.reported;
+  queries = s.queries;
+  shown = s.shown;
+  given = s.given;
+  unanswered = refl;
 })
 
-asked_on : (a : Interaction) (rs : List Report) (lits : List ℕ) (p q : Progress) → Stands a rs p → p.pending ≡ None → q ≡ record { given = p.given; pending = Some lits }
-    → Stands (interact a Query lits) rs q
-asked_on a rs lits p q s none e =
-    let before : a.queries ≡ s.reported = s.all ∙ ap (λ (o : Option (List ℕ)). s.reported ++ open_asked p.given o) none ∙ append-nil s.reported in
-    subst (Stands (interact a Query lits) rs) (sym e) (record {
-      reported = s.reported;
-      all = ap (λ (qs : List Asked). qs ++ record { given = a.given; assumed = lits } ∷ []) before ∙ ap (λ (cs : List (List ℕ)). s.reported ++ record { given = cs; assumed = lits } ∷ []) s.given;
-      shown = s.shown;
+-- an answered query more
+one_more : (a : Interaction) (rs : List Report) (p : Progress) (assumed : List ℕ) (status : Status) (s : Stands a rs p) → p.pending ≡ asked assumed →
+    a.queries ++ record { given = a.given; assumed = assumed; status = status } ∷ [] ≡ s.reported ++ record { given = p.given; assumed = assumed; status = status } ∷ []
+one_more a rs p assumed status s e =
+    let before : a.queries ≡ s.reported = s.queries ∙ ap (λ (o : Pending). s.reported ++ listed (unreported_in p.given o)) e ∙ append-nil s.reported in
+    ap (λ (qs : List Asked). qs ++ record { given = a.given; assumed = assumed; status = status } ∷ []) before
+    ∙ ap (λ (cs : List (List ℕ)). s.reported ++ record { given = cs; assumed = assumed; status = status } ∷ []) s.given
+
+answer_stands : (a : Interaction) (rs : List Report) (p : Progress) (assumed : List ℕ) (status : Status) → Stands a rs p → p.pending ≡ asked assumed →
+    Stands (answer_to (Some assumed) a status) (with_report rs (answer_report status)) (record p { pending = pending_after assumed status })
+answer_stands a rs p assumed Satisfiable s e = record {
+  reported = s.reported;
+  queries = one_more a rs p assumed Satisfiable s e;
+  shown = s.shown;
+  given = s.given;
+  unanswered = refl;
+}
+answer_stands a rs p assumed Unsatisfiable s e = record {
+  reported = s.reported;
+  queries = one_more a rs p assumed Unsatisfiable s e;
+  shown = s.shown;
+  given = s.given;
+  unanswered = refl;
+}
+answer_stands a rs p assumed Unknown s e =
+    let q : Asked = record { given = p.given; assumed = assumed; status = Unknown } in
+    record {
+      reported = s.reported ++ q ∷ [];
+      queries = one_more a rs p assumed Unknown s e ∙ sym (append-nil (s.reported ++ q ∷ []));
+      shown = shown_more s.reported rs q (record { status = Unknown; reason = None }) s.shown (refl, tt);
       given = s.given;
+      unanswered = refl;
+    }
+
+answered_on : (a : Interaction) (rs : List Report) (p : Progress) (status : Status) (r : Option Report) (q : Progress) → Stands a rs p → Answers status p r q →
+    Stands (answer_to a.unanswered a status) (with_report rs r) q
+answered_on a rs p status r q s t =
+    subst (Stands (answer_to a.unanswered a status) (with_report rs r)) (sym t.3)
+    (subst (λ o. Stands (answer_to a.unanswered a status) (with_report rs o) (record p { pending = pending_after t.0 status })) (sym t.2)
+    (subst (λ o. Stands (answer_to o a status) (with_report rs (answer_report status)) (record p { pending = pending_after t.0 status })) (sym (s.unanswered ∙ ap unanswered_in t.1))
+    (answer_stands a rs p t.0 status s t.1)))
+
+-- nothing is said, and neither a query nor a clause is new
+kept_on : (a : Interaction) (rs : List Report) (p : Progress) (r : Option Report) (q : Progress) → Stands a rs p → r ≡ None → q.given ≡ p.given → q.pending ≡ p.pending → Stands a (with_report rs r) q
+kept_on a rs p r q s none g e =
+    subst (λ o. Stands a (with_report rs o) q) (sym none) (record {
+      reported = s.reported;
+      queries = s.queries ∙ ap (λ (o : Pending). s.reported ++ listed (unreported_in p.given o)) (sym e) ∙ ap (λ (cs : List (List ℕ)). s.reported ++ listed (unreported_in cs q.pending)) (sym g);
+      shown = s.shown;
+      given = s.given ∙ sym g;
+      unanswered = s.unanswered ∙ ap unanswered_in (sym e);
     })
+
+-- a conclusion
+modelled_on : (a : Interaction) (rs : List Report) (p : Progress) (lits : List ℕ) (r : Option Report) (q : Progress) → Stands a rs p → Models lits p r q → Stands a (with_report rs r) q
+modelled_on a rs p lits None q s t = absurd t
+modelled_on a rs p lits (Some r) q s t = subst (Stands a (rs ++ r ∷ [])) (sym t.2) (reported_on a rs p r t.0 Satisfiable s t.1 t.4)
+
+cored_on : (a : Interaction) (rs : List Report) (p : Progress) (lits ids : List ℕ) (r : Option Report) (q : Progress) → Stands a rs p → Cores lits ids p r q → Stands a (with_report rs r) q
+cored_on a rs p lits ids None q s t = absurd t
+cored_on a rs p lits ids (Some r) q s t = subst (Stands a (rs ++ r ∷ [])) (sym t.2) (reported_on a rs p r t.0 Unsatisfiable s t.1 t.4)
+
+stays_on : (a : Interaction) (rs : List Report) (p : Progress) (r : Option Report) (q : Progress) → Stands a rs p → Stays p r q → Stands a (with_report rs r) q
+stays_on a rs p r q s t = subst (Stands a (with_report rs r)) (sym t.1) (subst (λ o. Stands a (with_report rs o) p) (sym t.0) s)
 
 -- a line leads on
 pub stands_on : (a : Interaction) (rs : List Report) (p : Progress) (kind : LineKind) (c : Content) (r : Option Report) (q : Progress) → Stands a rs p → Takes kind c p r q →
     Stands (interact a kind c.lits) (with_report rs r) q
-stands_on a rs p Clause c r q s t = given_on a (with_report rs r) c.lits t.0 q (stands_closed a rs p r t.0 s t.1) t.2 t.3
-stands_on a rs p Query c r q s t = asked_on a (with_report rs r) c.lits t.0 q (stands_closed a rs p r t.0 s t.1) t.2 t.3
-stands_on a rs p Lemma c r q s t = stands_closed a rs p r q s t
-stands_on a rs p Deletion c r q s t = stands_closed a rs p r q s t
-stands_on a rs p Weakening c r q s t = stands_closed a rs p r q s t
-stands_on a rs p (Answer status) c r q s t = stands_closed a rs p r q s t
-stands_on a rs p Model c r q s t = stands_closed a rs p r q s t
-stands_on a rs p Core c r q s t = stands_closed a rs p r q s t
-stands_on a rs p Trail c r q s t = stands_closed a rs p r q s t
+stands_on a rs p Clause c r q s t = given_on a (with_report rs r) c.lits p q (stands_closed a rs p r s t.0) t.1 t.4
+stands_on a rs p Query c r q s t = asked_on a (with_report rs r) c.lits p q (stands_closed a rs p r s t.0) t.1
+stands_on a rs p Lemma c r q s t = kept_on a rs p r q s t.0 t.1 t.2
+stands_on a rs p Deletion c r q s t = kept_on a rs p r q s t.0 t.1 t.4
+stands_on a rs p Weakening c r q s t = stays_on a rs p r q s t
+stands_on a rs p (Answer status) c r q s t = answered_on a rs p status r q s t
+stands_on a rs p Model c r q s t = modelled_on a rs p c.lits r q s t
+stands_on a rs p Core c r q s t = cored_on a rs p c.lits c.ids r q s t
+stands_on a rs p Trail c r q s t = stays_on a rs p r q s t
 
--- where no query is open, all have their reports
-pub all_reported : (a : Interaction) (rs : List Report) (p : Progress) → Stands a rs p → p.pending ≡ None → AllShown a.queries rs
-all_reported a rs p s none =
-    subst (λ qs. AllShown qs rs) (sym (s.all ∙ ap (λ (o : Option (List ℕ)). s.reported ++ open_asked p.given o) none ∙ append-nil s.reported)) s.shown
+-- all have reports but the pending one
+pub shows_but : {a : Interaction} {rs : List Report} {p : Progress} → Stands a rs p → ShowsBut a rs
+shows_but {p} s = record { reported = s.reported; unreported = unreported_in p.given p.pending; queries = s.queries; shown = s.shown }
+
+-- where the last one is over, all have theirs
+pub all_reported : (a : Interaction) (rs : List Report) (p : Progress) → Stands a rs (ended p) → (a.unanswered ≡ None) × AllShown a.queries rs
+all_reported a rs p s = (s.unanswered, subst (λ qs. AllShown qs rs) (sym (s.queries ∙ append-nil s.reported)) s.shown)
+
+-- so it is where it has no answer
+pub all_but_one : (a : Interaction) (rs : List Report) (p : Progress) → Stands a rs p → IsUnanswered p.pending →
+    ((assumed : List ℕ) × (a.unanswered ≡ Some assumed)) × AllShown a.queries rs
+all_but_one a rs p s u = (
+  (u.0, s.unanswered ∙ ap unanswered_in u.1),
+  subst (λ qs. AllShown qs rs) (sym (s.queries ∙ ap (λ (o : Pending). s.reported ++ listed (unreported_in p.given o)) u.1 ∙ append-nil s.reported)) s.shown,
+)
+
+-- ---- the lines of a session
+
+report_behind : (xs ys : List Report) (r : Option Report) → with_report (xs ++ ys) r ≡ xs ++ with_report ys r
+report_behind xs ys None = refl
+report_behind xs ys (Some r) = append_assoc xs ys (r ∷ [])
+
+report_first : (r : Option Report) → with_report [] r ≡ said r ++ []
+report_first None = refl
+report_first (Some r) = refl
+
+-- one more line
+pub plays_more : (p : Progress) (ls : List Line) (rs : List Report) (q : Progress) (l : Line) (r : Option Report) (after : Progress) → Plays p ls rs q → Takes l.kind l.content q r after →
+    Plays p (ls ++ l ∷ []) (with_report rs r) after
+unfolding Plays
+plays_more p [] rs q l r after h t = (r, after, [], subst (λ x. Takes l.kind l.content x r after) h.1 t, ap (λ (x : List Report). with_report x r) h.0 ∙ report_first r, (refl, refl))
+plays_more p (m ∷ ls) rs q l r after h t =
+    (h.0, h.1, with_report h.2 r, h.3, ap (λ (x : List Report). with_report x r) h.4 ∙ report_behind (said h.0) h.2 r, plays_more h.1 ls h.2 q l r after h.5 t)

@@ -1,4 +1,5 @@
 pub mod Reports
 pub mod Counts
+pub mod Interactions
 pub mod Progress
 pub mod Runs

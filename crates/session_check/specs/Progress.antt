@@ -1,126 +1,189 @@
--- What a session was asked, and what is said of it.
---     Query      clauses that were given, and what was assumed
---     asked_in ls      the queries of a text's lines
---     IsShown q r      what the report on a query says is true
+-- How a session goes on with a line, and what is said of a query.
+--     Progress, progress_of s      where a session stands
 --     Takes kind c p r p'      a line of this kind brings a session from p to p', with a report or none
-use Rattle.std.specs.Prelude.{◌≡◌, ℕ, List, [], ◌∷◌, ◌++◌, Option, Some, None}
-use Rattle.session_rules.specs.Sessions.{Fails, Satisfies}
-use Rattle.session_checker.specs.Held.{given_by}
+--     IsJudged ls rs      these are the reports on the lines of a text, by the rules of `session_checker`
+use Rattle.std.specs.Prelude.{◌≡◌, ℕ, ◌==◌, Bool, true, false, if◌then◌else◌, List, [], ◌∷◌, ◌++◌, Option, Some, None}
+use Rattle.sat_rules.specs.Clauses.{has}
+use Rattle.session_checker.specs.Causes.{refusal_of}
+use Rattle.session_checker.specs.Held.{given_by, named_by}
+use Rattle.session_checker.specs.Refusals.{Refusal, core_cause, lemma_cause, model_cause}
 use Rattle.session_text.specs.declared.line.LineKind.{LineKind}
 use Rattle.session_text.specs.declared.line.LineKind.TheVariants.{Answer, Clause, Core, Deletion, Lemma, Model, Query, Trail, Weakening}
 use Rattle.session_text.specs.declared.line.Status.{Status}
 use Rattle.session_text.specs.declared.line.Status.TheVariants.{Satisfiable, Unknown, Unsatisfiable}
 use Rattle.session_text.specs.Content.{Content}
 use Rattle.session_text.specs.Texts.{Line}
+use Rattle.session_check.specs.Interactions.{IsShown}
 use Rattle.session_check.specs.declared.report.Reason.{Reason}
+use Rattle.session_check.specs.declared.report.Reason.TheVariants as reasons
 use Rattle.session_check.specs.declared.report.Report.{Report}
 use Rattle.session_check.specs.declared.session.Session.{Session}
 use Rattle.session_check.specs.declared.session.Turn.{Turn}
 use Rattle.session_check.specs.declared.session.Turn.TheVariants as turns
 
--- the clauses that were given before a query, and what it assumed
-pub record Asked : Type 0 where
-  pub given : List (List ℕ)
-  pub assumed : List ℕ
+-- the last query has its report, or there is none;  it has no answer yet;  it has this one, and no report
+pub data Pending : Type 0 where
+  settled : Pending
+  asked : (assumed : List ℕ) → Pending
+  answered : (assumed : List ℕ) → (status : Status) → Pending
 
--- the clauses that were given so far, and the queries in their order
-pub record Interaction : Type 0 where
-  pub given : List (List ℕ)
-  pub queries : List Asked
-
--- a line of this kind, with these literals
-abbrev pub interact : Interaction → LineKind → List ℕ → Interaction
-interact a Clause lits = record a { given = a.given ++ lits ∷ [] }
-interact a Query lits = record a { queries = a.queries ++ record { given = a.given; assumed = lits } ∷ [] }
-interact a Lemma lits = a
-interact a Deletion lits = a
-interact a Weakening lits = a
-interact a (Answer status) lits = a
-interact a Model lits = a
-interact a Core lits = a
-interact a Trail lits = a
-
--- one line
-abbrev pub with_line : Interaction → Line → Interaction
-with_line a l = interact a l.kind l.content.lits
-
--- further lines
-unfoldable pub with_lines : Interaction → List Line → Interaction
-with_lines a [] = a
-with_lines a (l ∷ ls) = with_lines (with_line a l) ls
-
--- the queries of these lines
-abbrev pub asked_in : List Line → List Asked
-asked_in ls = (with_lines (record { given = []; queries = [] }) ls).queries
-
--- ---- reports
-
--- the answer is true where it is shown: some assignment satisfies all, or none does
-abbrev pub IsAnswer : Asked → Status → Option Reason → Type 0
-IsAnswer q Satisfiable None = (values : List ℕ) × Satisfies q.given q.assumed values
-IsAnswer q Unsatisfiable None = (core : List ℕ) × Fails q.given q.assumed core
-IsAnswer q Unknown None = Unit {0}
-IsAnswer q status (Some reason) = Unit {0}
-
-abbrev pub IsShown : Asked → Report → Type 0
-IsShown q r = IsAnswer q r.status r.reason
-
--- each query has its report
-abbrev pub AllShown : List Asked → List Report → Type 0
-AllShown [] [] = Unit {0}
-AllShown (q ∷ qs) (r ∷ rs) = IsShown q r × AllShown qs rs
-AllShown [] (r ∷ rs) = ⊥
-AllShown (q ∷ qs) [] = ⊥
-
--- ---- a session
-
--- the clauses that were given, and what the query assumed that has no report yet
+-- the clauses that were given, the clause of each id, whether some lemma did not follow, and where the last query stands
 pub record Progress : Type 0 where
   pub given : List (List ℕ)
-  pub pending : Option (List ℕ)
+  pub named : ℕ → Option (List ℕ)
+  pub broken : Bool
+  pub pending : Pending
 
 -- before the first line
-abbrev pub fresh : Progress
-fresh = record { given = []; pending = None }
+abbrev pub IsFresh : Progress → Type 0
+IsFresh p = (p.given ≡ []) × ((k : ℕ) → p.named k ≡ None) × (p.broken ≡ false)
+    × (p.pending ≡ settled)
 
-abbrev pub open_in : Turn → List ℕ → Option (List ℕ)
-open_in turns.Idle assumed = None
-open_in turns.Asked assumed = Some assumed
-open_in (turns.Answered status) assumed = Some assumed
+-- the last query has its report
+abbrev pub ended : Progress → Progress
+ended p = record p { pending = settled }
 
--- the query of a session that has no report yet
-abbrev pub open_of : Session → Option (List ℕ)
-open_of s = open_in s.turn s.assumed.items
+abbrev pub pending_in : Turn → List ℕ → Pending
+pending_in turns.Idle assumed = settled
+pending_in turns.Asked assumed = asked assumed
+pending_in (turns.Answered status) assumed = answered assumed status
+
+-- where the last query of a session stands
+abbrev pub pending_of : Session → Pending
+pending_of s = pending_in s.turn s.assumed.items
+
+-- it has no answer yet
+abbrev pub IsUnanswered : Pending → Type 0
+IsUnanswered pending = (assumed : List ℕ) × (pending ≡ asked assumed)
 
 -- a session
 abbrev pub progress_of : Session → Progress
-progress_of s = record { given = given_by s.checker; pending = open_of s }
+progress_of s = record {
+  given = given_by s.checker;
+  named = named_by s.checker;
+  broken = s.broken;
+  pending = pending_of s;
+}
 
--- a report ends the open query, or all stays
-abbrev pub Closes : Progress → Option Report → Progress → Type 0
-Closes p None after = after ≡ p
-Closes p (Some r) after = (assumed : List ℕ) × (p.pending ≡ Some assumed)
-    × (after ≡ record { given = p.given; pending = None })
-    × IsShown (record { given = p.given; assumed = assumed }) r
+-- nothing is said, and all stays
+abbrev pub Stays : Progress → Option Report → Progress → Type 0
+Stays p r after = (r ≡ None) × (after ≡ p)
 
--- where no query is open, or once it is ended, a clause is given
-abbrev pub Gives : List ℕ → Progress → Option Report → Progress → Type 0
-Gives lits p r after = (mid : Progress) × Closes p r mid × (mid.pending ≡ None)
-    × (after ≡ record { given = mid.given ++ lits ∷ []; pending = None })
+-- the last query is over: if it has no report yet, it was answered so, and has no conclusion
+abbrev pub Closes : Pending → Option Report → Type 0
+Closes pending None = pending ≡ settled
+Closes pending (Some r) = (assumed : List ℕ) × (pending ≡ answered assumed r.status)
+    × (r.reason ≡ Some reasons.NoConclusion)
+
+-- the id names these literals now, and all others what they did
+abbrev pub Adds : (ℕ → Option (List ℕ)) → ℕ → List ℕ → (ℕ → Option (List ℕ)) → Type 0
+Adds f id lits g = (k : ℕ) → g k ≡ (if k == id then Some lits else f k)
+
+-- then a clause is given
+abbrev pub Gives : ℕ → List ℕ → Progress → Option Report → Progress → Type 0
+Gives id lits p r after = Closes p.pending r × (after.given ≡ p.given ++ lits ∷ [])
+    × Adds p.named id lits after.named × (after.broken ≡ p.broken) × (after.pending ≡ settled)
 
 -- or a query is asked
 abbrev pub Asks : List ℕ → Progress → Option Report → Progress → Type 0
-Asks lits p r after = (mid : Progress) × Closes p r mid × (mid.pending ≡ None)
-    × (after ≡ record { given = mid.given; pending = Some lits })
+Asks lits p r after = Closes p.pending r × (after ≡ record p { pending = asked lits })
+
+-- a lemma is added; or its hints do not show it, for this cause, and from then on no core is shown
+abbrev pub DerivesBy : Option Refusal → ℕ → List ℕ → Progress → Progress → Type 0
+DerivesBy None id lits p after = Adds p.named id lits after.named × (after.broken ≡ p.broken)
+DerivesBy (Some cause) id lits p after =
+    ((k : ℕ) → after.named k ≡ p.named k) × (after.broken ≡ true)
+
+abbrev pub Derives : ℕ → List ℕ → List ℕ → Progress → Option Report → Progress → Type 0
+Derives id lits ids p r after = (r ≡ None) × (after.given ≡ p.given) × (after.pending ≡ p.pending)
+    × DerivesBy (lemma_cause p.named id lits ids) id lits p after
+
+-- clauses are deleted
+abbrev pub Deletes : List ℕ → Progress → Option Report → Progress → Type 0
+Deletes ids p r after = (r ≡ None) × (after.given ≡ p.given)
+    × ((k : ℕ) → after.named k ≡ (if has k ids then None else p.named k))
+    × (after.broken ≡ p.broken) × (after.pending ≡ p.pending)
+
+-- what is said of a query at once: that the solver gave up
+abbrev pub answer_report : Status → Option Report
+answer_report Satisfiable = None
+answer_report Unsatisfiable = None
+answer_report Unknown = Some (record { status = Unknown; reason = None })
+
+-- where it stands after its answer
+abbrev pub pending_after : List ℕ → Status → Pending
+pending_after assumed Satisfiable = answered assumed Satisfiable
+pending_after assumed Unsatisfiable = answered assumed Unsatisfiable
+pending_after assumed Unknown = settled
+
+-- the last query, which has no answer yet, gets this one
+abbrev pub Answers : Status → Progress → Option Report → Progress → Type 0
+Answers status p r after = (assumed : List ℕ) × (p.pending ≡ asked assumed)
+    × (r ≡ answer_report status) × (after ≡ record p { pending = pending_after assumed status })
+
+-- this is why an answer is not shown: the cause of the rules
+abbrev pub IsReason : Option Refusal → Option Reason → Type 0
+IsReason cause None = cause ≡ None
+IsReason cause (Some reasons.NoConclusion) = ⊥
+IsReason cause (Some reasons.Lemma) = ⊥
+IsReason cause (Some (reasons.Refused c)) = cause ≡ Some (refusal_of c)
+
+-- of a core, where some lemma did not follow or none did
+abbrev pub IsCoreReason : Bool → Option Refusal → Option Reason → Type 0
+IsCoreReason true cause reason = reason ≡ Some reasons.Lemma
+IsCoreReason false cause reason = IsReason cause reason
+
+-- the last query, which was answered so, gets its report, by a model
+abbrev pub Models : List ℕ → Progress → Option Report → Progress → Type 0
+Models lits p None after = ⊥
+Models lits p (Some r) after = (assumed : List ℕ) × (p.pending ≡ answered assumed Satisfiable)
+    × (after ≡ ended p) × IsReason (model_cause p.given assumed lits) r.reason
+    × IsShown (record { given = p.given; assumed = assumed; status = Satisfiable }) r
+
+-- or by a core
+abbrev pub Cores : List ℕ → List ℕ → Progress → Option Report → Progress → Type 0
+Cores lits ids p None after = ⊥
+Cores lits ids p (Some r) after = (assumed : List ℕ) × (p.pending ≡ answered assumed Unsatisfiable)
+    × (after ≡ ended p) × IsCoreReason p.broken (core_cause p.named assumed lits ids) r.reason
+    × IsShown (record { given = p.given; assumed = assumed; status = Unsatisfiable }) r
 
 -- a line of this kind
 abbrev pub Takes : LineKind → Content → Progress → Option Report → Progress → Type 0
-Takes Clause c p r after = Gives c.lits p r after
+Takes Clause c p r after = Gives c.id c.lits p r after
 Takes Query c p r after = Asks c.lits p r after
-Takes Lemma c p r after = Closes p r after
-Takes Deletion c p r after = Closes p r after
-Takes Weakening c p r after = Closes p r after
-Takes (Answer status) c p r after = Closes p r after
-Takes Model c p r after = Closes p r after
-Takes Core c p r after = Closes p r after
-Takes Trail c p r after = Closes p r after
+Takes Lemma c p r after = Derives c.id c.lits c.ids p r after
+Takes Deletion c p r after = Deletes c.ids p r after
+Takes Weakening c p r after = Stays p r after
+Takes (Answer status) c p r after = Answers status p r after
+Takes Model c p r after = Models c.lits p r after
+Takes Core c p r after = Cores c.lits c.ids p r after
+Takes Trail c p r after = Stays p r after
+
+-- ---- a whole session
+
+-- a report, or none
+abbrev pub said : Option Report → List Report
+said None = []
+said (Some r) = r ∷ []
+
+-- with a report more, or none
+abbrev pub with_report : List Report → Option Report → List Report
+with_report rs None = rs
+with_report rs (Some r) = rs ++ r ∷ []
+
+-- these lines, one after the other, with these reports
+unfoldable pub Plays : Progress → List Line → List Report → Progress → Type 0
+Plays p [] rs after = (rs ≡ []) × (after ≡ p)
+Plays p (l ∷ ls) rs after = (r : Option Report) × (mid : Progress) × (more : List Report)
+    × Takes l.kind l.content p r mid × (rs ≡ said r ++ more) × Plays mid ls more after
+
+-- all lines from the first on, and the end
+pub record IsJudged (lines : List Line) (rs : List Report) : Type 0 where
+  pub first : Progress
+  pub fresh : IsFresh first
+  pub last : Progress
+  pub reports : List Report
+  pub end : Option Report
+  pub plays : Plays first lines reports last
+  pub closes : Closes last.pending end
+  pub all : rs ≡ with_report reports end

@@ -5,12 +5,18 @@
 use Rattle.std.specs.Prelude.{◌≡◌, ℕ, List, [], ◌∷◌, ◌++◌, Option, Some, None, Result, Ok, Err, IfSome}
 use Rattle.std.specs.Io.KnownBytes.{Appends}
 use Rattle.whole_writes.specs.Beginnings.{AppendsBeginning}
-use Rattle.session_text.specs.Texts.{Ended, Line, outcome_of}
+use Rattle.session_text.specs.Texts.{Ended, Faulty, Line, outcome_of}
+use Rattle.session_text.specs.declared.fault.SessionTextFault.{SessionTextFault}
+use Rattle.session_text.specs.declared.fault.SessionTextFault.TheVariants as texts
 use Rattle.session_check.specs.Counts.{counted, last_line, no_counts}
-use Rattle.session_check.specs.Progress.{AllShown, Asked, Closes, Progress, asked_in}
+use Rattle.session_check.specs.Interactions.{AllShown, Asked, Interaction, interaction_of}
+use Rattle.session_check.specs.Progress.{Closes, IsJudged, IsUnanswered, Progress}
 use Rattle.session_check.specs.Reports.{report_line}
 use Rattle.session_check.specs.declared.counts.Counts.{Counts}
 use Rattle.session_check.specs.declared.fault.RunFault.{RunFault}
+use Rattle.session_check.specs.declared.fault.RunFault.TheVariants as faults
+use Rattle.session_check.specs.declared.fault.Stop.{Stop}
+use Rattle.session_check.specs.declared.fault.Stop.TheVariants as stops
 use Rattle.session_check.specs.declared.report.Report.{Report}
 
 -- counts, and the lines that were written
@@ -34,23 +40,41 @@ tell_all t (r ∷ rs) = tell_all (tell t r) rs
 abbrev pub told : List Report → Told
 told rs = tell_all (record { counts = no_counts; text = [] }) rs
 
--- each query of the text has its report, which is true, and the text has no fault
+-- the text has no fault, each query is answered, and each has its report, by the rules, which is true
 abbrev pub ShowsAll : Option (List ℕ) → List Report → Type 0
 ShowsAll known rs = IfSome known (λ text. (lines : List Line) × (outcome_of text ≡ (lines, Ended))
-    × AllShown (asked_in lines) rs)
+    × ((interaction_of lines).unanswered ≡ None) × AllShown (interaction_of lines).queries rs
+    × IsJudged lines rs)
 
--- so have the first queries of the text
-pub record ShowsSome (text : List ℕ) (rs : List Report) : Type 0 where
-  pub lines : List Line
-  pub more : List Line
-  pub said : (outcome_of text).0 ≡ lines ++ more
+-- so have these, but the last query has no answer
+abbrev pub LeavesOne : Option (List ℕ) → List Report → Type 0
+LeavesOne known rs = IfSome known (λ text. (lines : List Line) × (outcome_of text ≡ (lines, Ended))
+    × ((assumed : List ℕ) × ((interaction_of lines).unanswered ≡ Some assumed))
+    × AllShown (interaction_of lines).queries rs)
+
+-- one, or none
+abbrev pub listed : Option Asked → List Asked
+listed None = []
+listed (Some q) = q ∷ []
+
+-- all answered queries have true reports, or all but the last one
+pub record ShowsBut (a : Interaction) (rs : List Report) : Type 0 where
   pub reported : List Asked
-  pub pending : List Asked
-  pub asked : asked_in lines ≡ reported ++ pending
+  pub unreported : Option Asked
+  pub queries : a.queries ≡ reported ++ listed unreported
   pub shown : AllShown reported rs
 
+-- so is it with the first lines of the text
 abbrev pub Shows : Option (List ℕ) → List Report → Type 0
-Shows known rs = IfSome known (λ text. ShowsSome text rs)
+Shows known rs = IfSome known (λ text. (lines : List Line) × (more : List Line)
+    × ((outcome_of text).0 ≡ lines ++ more) × ShowsBut (interaction_of lines) rs)
+
+-- or with all lines before its fault
+abbrev pub ShowsUpTo : Option (List ℕ) → SessionTextFault → List Report → Type 0
+ShowsUpTo known (texts.Read e) rs = Shows known rs
+ShowsUpTo known (texts.Wrong line kind) rs = IfSome known (λ text. (lines : List Line)
+    × (outcome_of text ≡ (lines, Faulty line kind)) × ShowsBut (interaction_of lines) rs)
+ShowsUpTo known texts.OutOfMemory rs = Shows known rs
 
 -- a run that was cut off: among the queries, or at the last line
 pub data IsCut (known before after : Option (List ℕ)) : Type 0 where
@@ -60,15 +84,39 @@ pub data IsCut (known before after : Option (List ℕ)) : Type 0 where
       AppendsBeginning before after ((told rs).text ++ last_line (told rs).counts) →
       IsCut known before after
 
--- a run that has ended wrote the line of each query and the last one; another one a beginning of that
+-- what an error leaves: the lines of the queries before it, or a beginning of what was to be written
+abbrev pub Leaves : Option (List ℕ) → Option (List ℕ) → Option (List ℕ) → RunFault → Type 0
+Leaves known before after (faults.Proof fault) =
+    (rs : List Report) × ShowsUpTo known fault rs × Appends before after (told rs).text
+Leaves known before after (faults.Line line cause) =
+    (rs : List Report) × Shows known rs × Appends before after (told rs).text
+Leaves known before after (faults.NoAnswer line) =
+    (rs : List Report) × LeavesOne known rs × Appends before after (told rs).text
+Leaves known before after faults.OutOfMemory = IsCut known before after
+Leaves known before after (faults.Write e) = IsCut known before after
+
+-- a run that has ended wrote the line of each query and the last one
 abbrev pub IsRun : Option (List ℕ) → Option (List ℕ) → Option (List ℕ) →
     Result Counts RunFault → Type 0
 IsRun known before after (Ok counts) = (rs : List Report) × ShowsAll known rs
     × ((told rs).counts ≡ counts)
     × Appends before after ((told rs).text ++ last_line counts)
-IsRun known before after (Err fault) = IsCut known before after
+IsRun known before after (Err fault) = Leaves known before after fault
 
 -- ---- parts of a run
+
+-- the fault of a line of this number that was not taken
+abbrev pub stop_fault : Stop → ℕ → RunFault
+stop_fault (stops.Line cause) line = faults.Line line cause
+stop_fault stops.OutOfMemory line = faults.OutOfMemory
+
+-- memory ran out, or a write failed, and this is so
+abbrev pub CutsOff : Type 0 → RunFault → Type 0
+CutsOff part (faults.Proof fault) = ⊥
+CutsOff part (faults.Line line cause) = ⊥
+CutsOff part (faults.NoAnswer line) = ⊥
+CutsOff part faults.OutOfMemory = part
+CutsOff part (faults.Write e) = part
 
 -- a report was written, or there is none
 abbrev pub Tells : Counts → Counts → Option Report → Option (List ℕ) → Option (List ℕ) → Type 0
@@ -82,19 +130,25 @@ TellsPart old None before after = ⊥
 TellsPart old (Some r) before after =
     AppendsBeginning before after (report_line (counted old r).queries r)
 
--- it was cut off
-pub data BreaksOff (p : Progress) (old : Counts) (before after : Option (List ℕ)) : Type 0 where
-  unanswered : after ≡ before → BreaksOff p old before after
-  at_report : (r : Option Report) (ended : Progress) → Closes p r ended → ended.pending ≡ None →
-      TellsPart old r before after → BreaksOff p old before after
-  at_last_line : (r : Option Report) (ended : Progress) (new : Counts) (mid : Option (List ℕ)) →
-      Closes p r ended → ended.pending ≡ None → Tells old new r before mid →
-      AppendsBeginning mid after (last_line new) → BreaksOff p old before after
+-- the end was cut off: at the report of the last query, or at the last line
+pub data EndsPart (p : Progress) (old : Counts) (before after : Option (List ℕ)) : Type 0 where
+  at_report : (r : Option Report) → Closes p.pending r → TellsPart old r before after →
+      EndsPart p old before after
+  at_last_line : (r : Option Report) (new : Counts) (mid : Option (List ℕ)) →
+      Closes p.pending r → Tells old new r before mid →
+      AppendsBeginning mid after (last_line new) → EndsPart p old before after
 
--- the last query is ended, and the last line written
+-- the last query has no answer, or the end was cut off
+abbrev pub BreaksOff : Progress → Counts → Option (List ℕ) → Option (List ℕ) → RunFault → Type 0
+BreaksOff p old before after (faults.Proof fault) = ⊥
+BreaksOff p old before after (faults.Line line cause) = ⊥
+BreaksOff p old before after (faults.NoAnswer line) = IsUnanswered p.pending × (after ≡ before)
+BreaksOff p old before after faults.OutOfMemory = EndsPart p old before after
+BreaksOff p old before after (faults.Write e) = EndsPart p old before after
+
+-- the last query is over, and the last line is written
 abbrev pub Finishes : Progress → Counts → Option (List ℕ) → Option (List ℕ) →
     Result Counts RunFault → Type 0
-Finishes p old before after (Ok new) = (r : Option Report) × (ended : Progress)
-    × Closes p r ended × (ended.pending ≡ None)
+Finishes p old before after (Ok new) = (r : Option Report) × Closes p.pending r
     × (mid : Option (List ℕ)) × Tells old new r before mid × Appends mid after (last_line new)
-Finishes p old before after (Err fault) = BreaksOff p old before after
+Finishes p old before after (Err fault) = BreaksOff p old before after fault

@@ -18,9 +18,6 @@ pub enum LineCause {
     /// or a query after one without an answer.
     #[error("not expected here")]
     Misplaced,
-    /// The text ends after a query without an answer.
-    #[error("the last query has no answer")]
-    NoAnswer,
 }
 
 /// Why a run was not brought to its end.
@@ -32,6 +29,9 @@ pub enum RunFault {
     /// A line ends the session; lines count from 1.
     #[error("proof: line {line}: {cause}")]
     Line { line: u64, cause: LineCause },
+    /// The text ends after a query without an answer; this is its last line.
+    #[error("proof: line {line}: the last query has no answer")]
+    NoAnswer { line: u64 },
     /// There was no memory for a clause or an answer.
     #[error("out of memory")]
     OutOfMemory,

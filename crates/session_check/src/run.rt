@@ -1,14 +1,14 @@
 //! A run over a whole session.
-ghost use Rattle.std.specs.Prelude.{◌≡◌, OnErr, OnOk};
+ghost use Rattle.std.specs.Prelude.{◌≡◌, IfErr, OnOk};
 ghost use Rattle.std.specs.Io.KnownBytes.{Appends};
 ghost use Rattle.whole_writes.specs.Beginnings.{AppendsBeginning};
 ghost use Rattle.session_check.specs.Counts.{last_line};
 ghost use Rattle.session_check.specs.Progress.{progress_of};
 ghost use Rattle.session_check.specs.Reports.{report_line};
-ghost use Rattle.session_check.specs.Runs.{Finishes, IsRun, Tells, TellsPart};
+ghost use Rattle.session_check.specs.Runs.{CutsOff, Finishes, IsRun, Tells, TellsPart, stop_fault};
 
 use crate::counts::Counts;
-use crate::fault::{LineCause, RunFault, Stop};
+use crate::fault::{RunFault, Stop};
 use crate::report::{Report, set_line};
 use crate::session::Session;
 use session_text::SessionReader;
@@ -22,8 +22,9 @@ use whole_writes::write_whole;
 ///
 /// # Errors
 ///
-/// `Proof` if the text can't be read or is malformed, `Line` for a line that ends the session,
-/// `OutOfMemory`, or `Write`. The lines of the queries before it are written.
+/// `Proof` if the text can't be read or is malformed, `Line` for a line that ends the session, or
+/// `NoAnswer`: the lines of the queries before it are written. After `OutOfMemory` or `Write` the
+/// last one of them may be cut off.
 pub fn check_alone<P: Read + Drop, W: Write>(
     alloc: Global,
     proof: P,
@@ -63,12 +64,7 @@ fn finish<W: Write>(
 {
     let report = match session.close() {
         Ok(report) => report,
-        Err(_) => {
-            return Err(RunFault::Line {
-                line,
-                cause: LineCause::NoAnswer,
-            });
-        }
+        Err(_) => return Err(RunFault::NoAnswer { line }),
     };
     tell(&mut text, &mut counts, report, out)?;
     write_last(&mut text, counts, out)?;
@@ -84,8 +80,8 @@ fn tell<W: Write>(
 ) -> Result<(), RunFault>
     ensures whole { OnOk result (Tells counts.old counts.new report (W.contents out.old)
         (W.contents out.new)) }
-    ensures part { OnErr result (TellsPart counts.old report (W.contents out.old)
-        (W.contents out.new)) }
+    ensures part { IfErr result (CutsOff (TellsPart counts.old report (W.contents out.old)
+        (W.contents out.new))) }
 {
     match report {
         None => Ok(()),
@@ -105,8 +101,8 @@ fn write_report<W: Write>(
 ) -> Result<(), RunFault>
     ensures whole { OnOk result
         (Appends (W.contents out.old) (W.contents out.new) (report_line number report)) }
-    ensures part { OnErr result
-        (AppendsBeginning (W.contents out.old) (W.contents out.new) (report_line number report)) }
+    ensures part { IfErr result (CutsOff
+        (AppendsBeginning (W.contents out.old) (W.contents out.new) (report_line number report))) }
 {
     if set_line(text, number, report).is_err() {
         return Err(RunFault::OutOfMemory);
@@ -121,8 +117,8 @@ fn write_report<W: Write>(
 fn write_last<W: Write>(text: &mut Vec<u8>, counts: Counts, out: &mut W) -> Result<(), RunFault>
     ensures whole { OnOk result
         (Appends (W.contents out.old) (W.contents out.new) (last_line counts)) }
-    ensures part { OnErr result
-        (AppendsBeginning (W.contents out.old) (W.contents out.new) (last_line counts)) }
+    ensures part { IfErr result (CutsOff
+        (AppendsBeginning (W.contents out.old) (W.contents out.new) (last_line counts))) }
 {
     if counts.set_last_line(text).is_err() {
         return Err(RunFault::OutOfMemory);
@@ -134,7 +130,9 @@ fn write_last<W: Write>(text: &mut Vec<u8>, counts: Counts, out: &mut W) -> Resu
 }
 
 /// Returns the fault of a line of this number that was not taken.
-fn fault_of(stop: Stop, line: u64) -> RunFault {
+fn fault_of(stop: Stop, line: u64) -> RunFault
+    ensures { result ≡ stop_fault stop line }
+{
     match stop {
         Stop::Line(cause) => RunFault::Line { line, cause },
         Stop::OutOfMemory => RunFault::OutOfMemory,

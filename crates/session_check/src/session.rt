@@ -1,5 +1,8 @@
 //! A session, a line after the other.
-ghost use Rattle.std.specs.Prelude.{◌≡◌, None, IfOk, IsOk, OnOk};
+ghost use Rattle.std.specs.Prelude.{◌≡◌, None, Option, IfErr, IfOk, IsOk, OnErr, OnOk};
+ghost use Rattle.session_checker.specs.Causes.{IsCause};
+ghost use Rattle.session_checker.specs.Refusals.{Refusal};
+ghost use Rattle.session_check.specs.Progress.{IsReason};
 ghost use Rattle.session_text.specs.Content.{content_of};
 
 use crate::fault::{LineCause, Stop};
@@ -32,11 +35,11 @@ pub(crate) struct Session {
 }
 
 impl Session {
-    ghost use Rattle.session_check.specs.Progress.{Asks, Closes, Gives, Takes, fresh, open_of, progress_of};
+    ghost use Rattle.session_check.specs.Progress.{Answers, Asks, Closes, Cores, Deletes, Derives, Gives, IsFresh, IsUnanswered, Models, Takes, pending_of, progress_of, settled};
 
     /// Returns a session before its first line.
     pub(crate) fn new(alloc: Global) -> Result<Session, AllocError>
-        ensures { IfOk result (λ session. progress_of session ≡ fresh) }
+        ensures { IfOk result (λ session. IsFresh (progress_of session)) }
     {
         Ok(Session {
             checker: SessionChecker::new(alloc)?,
@@ -47,6 +50,11 @@ impl Session {
     }
 
     /// Takes a line of this kind. Returns what is said of the query that it ends, if it ends one.
+    ///
+    /// # Errors
+    ///
+    /// The line ends the session, or there is no memory for it. After an error the session is of no
+    /// use.
     pub(crate) fn take(&mut self, kind: LineKind, lists: &Lists) -> Result<Option<Report>, Stop>
         ensures { IfOk result (λ report. Takes kind (content_of lists.now) (progress_of self.old)
             report (progress_of self.new)) }
@@ -64,11 +72,18 @@ impl Session {
         }
     }
 
-    /// Ends the last query, if it still stands open: it has no conclusion.
+    /// Ends the last query. Returns a report that it has no conclusion, if it was answered and has
+    /// no report yet.
+    ///
+    /// # Errors
+    ///
+    /// `Misplaced` if it has no answer. Then nothing is changed.
     pub(crate) fn close(&mut self) -> Result<Option<Report>, Stop>
-        ensures closes { IfOk result (λ report.
-            Closes (progress_of self.old) report (progress_of self.new)) }
-        ensures idle { OnOk result (open_of self.new ≡ None) }
+        ensures closes { IfOk result (λ report. Closes (pending_of self.old) report) }
+        ensures idle { OnOk result (pending_of self.new ≡ settled) }
+        ensures checker { self.new.checker ≡ self.old.checker }
+        ensures broken { self.new.broken ≡ self.old.broken }
+        ensures unanswered { OnErr result (IsUnanswered (pending_of self.old)) }
     {
         match self.turn {
             Turn::Idle => Ok(None),
@@ -84,7 +99,7 @@ impl Session {
     }
 
     fn give(&mut self, id: u64, clause: &[Lit]) -> Result<Option<Report>, Stop>
-        ensures { IfOk result (λ report. Gives clause.now (progress_of self.old) report
+        ensures { IfOk result (λ report. Gives id clause.now (progress_of self.old) report
             (progress_of self.new)) }
     {
         let report = self.close()?;
@@ -107,8 +122,8 @@ impl Session {
 
     /// A lemma that does not follow is not stored, and the session goes on.
     fn derive(&mut self, id: u64, lemma: &[Lit], hints: &[u64]) -> Result<Option<Report>, Stop>
-        ensures { IfOk result (λ report.
-            Closes (progress_of self.old) report (progress_of self.new)) }
+        ensures { IfOk result (λ report. Derives id lemma.now hints.now
+            (progress_of self.old) report (progress_of self.new)) }
     {
         match self.checker.derive(id, lemma, hints) {
             Ok(()) => Ok(None),
@@ -122,7 +137,7 @@ impl Session {
 
     fn delete(&mut self, ids: &[u64]) -> Result<Option<Report>, Stop>
         ensures { IfOk result (λ report.
-            Closes (progress_of self.old) report (progress_of self.new)) }
+            Deletes ids.now (progress_of self.old) report (progress_of self.new)) }
     {
         let report = self.weaken(ids)?;
         self.checker.delete(ids);
@@ -131,9 +146,8 @@ impl Session {
 
     /// All ids must name clauses, which stay.
     fn weaken(&mut self, ids: &[u64]) -> Result<Option<Report>, Stop>
-        ensures closes { IfOk result (λ report.
-            Closes (progress_of self.old) report (progress_of self.new)) }
-        ensures stays { self.new ≡ self.old }
+        ensures silent { IfOk result (λ report. report ≡ None) }
+        ensures kept { self.new ≡ self.old }
     {
         for id in ids {
             if self.checker.clause(*id).is_none() {
@@ -145,25 +159,29 @@ impl Session {
 
     fn answer(&mut self, status: Status) -> Result<Option<Report>, Stop>
         ensures { IfOk result (λ report.
-            Closes (progress_of self.old) report (progress_of self.new)) }
+            Answers status (progress_of self.old) report (progress_of self.new)) }
     {
         let Turn::Asked = self.turn else {
             return Err(Stop::Line(LineCause::Misplaced));
         };
-        if !matches!(status, Status::Unknown) {
-            self.turn = Turn::Answered(status);
-            return Ok(None);
+        match status {
+            Status::Satisfiable | Status::Unsatisfiable => {
+                self.turn = Turn::Answered(status);
+                Ok(None)
+            }
+            Status::Unknown => {
+                self.turn = Turn::Idle;
+                Ok(Some(Report {
+                    status,
+                    reason: None,
+                }))
+            }
         }
-        self.turn = Turn::Idle;
-        Ok(Some(Report {
-            status,
-            reason: None,
-        }))
     }
 
     fn model(&mut self, model: &[Lit]) -> Result<Option<Report>, Stop>
         ensures { IfOk result (λ report.
-            Closes (progress_of self.old) report (progress_of self.new)) }
+            Models model.now (progress_of self.old) report (progress_of self.new)) }
     {
         let Turn::Answered(Status::Satisfiable) = self.turn else {
             return Err(Stop::Line(LineCause::Misplaced));
@@ -178,7 +196,7 @@ impl Session {
 
     fn core(&mut self, core: &[Lit], hints: &[u64]) -> Result<Option<Report>, Stop>
         ensures { IfOk result (λ report.
-            Closes (progress_of self.old) report (progress_of self.new)) }
+            Cores core.now hints.now (progress_of self.old) report (progress_of self.new)) }
     {
         let Turn::Answered(Status::Unsatisfiable) = self.turn else {
             return Err(Stop::Line(LineCause::Misplaced));
@@ -211,7 +229,9 @@ fn stop_of(fault: SessionFault) -> Stop {
 
 /// Returns why an answer is not shown, if it is not.
 fn reason_of(outcome: Result<(), SessionFault>) -> Result<Option<Reason>, Stop>
-    ensures { IfOk result (λ reason. reason ≡ None → IsOk outcome) }
+    ensures shown { IfOk result (λ reason. reason ≡ None → IsOk outcome) }
+    ensures exact { (cause : Option Refusal) → OnOk outcome (cause ≡ None)
+        → IfErr outcome (λ fault. IsCause fault cause) → IfOk result (IsReason cause) }
 {
     match outcome {
         Ok(()) => Ok(None),

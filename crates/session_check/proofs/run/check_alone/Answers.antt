@@ -1,12 +1,13 @@
+use Rattle.std.proofs.Common.{subst, sym}
 use Rattle.session_text.specs.NextLine.{bytes_left, content_read}
 use Rattle.session_text.proofs.ReadingLemmas.{exits}
 use Rattle.session_check.specs.Progress.{progress_of}
-use Rattle.session_check.specs.Runs.{IsRun}
-use Rattle.session_check.proofs.RunLemmas.{cut_here, cut_report, ended_run, line_taken, so_far_first, so_far_on, so_far_start}
+use Rattle.session_check.specs.Runs.{IsRun, Leaves}
+use Rattle.session_check.proofs.RunLemmas.{cut_first, cut_report, ended_run, faulty_run, line_taken, so_far_first, so_far_on, stopped_run}
 use Rattle.session_check.proofs.run.check_alone.Goals as goal
 
 pub returns-in-Err : goal.returns-in-Err
-returns-in-Err g c = cut_here (so_far_start _ _)
+returns-in-Err g c = cut_first _ _
 
 pub lines-init : goal.lines-init
 lines-init g c =
@@ -24,12 +25,14 @@ pub returns-in_err-tell-in-Ok-take : goal.returns-in_err-tell-in-Ok-take
 returns-in_err-tell-in-Ok-take g c =
     let reads = rw c.in-Ok-Some.field-0-is at c.in-Ok-Some.ensures.reads in
     exits (IsRun (g.P.Read.remaining c.args.proof) (g.W.Write.contents c.args.out.now) (g.W.Write.contents c.tell.new.out)) _ _ c.from_residual.ensures.1
-    (cut_report c.in-Ok-take.report
+    (cut_report (g.W.Write.contents c.tell.new.out) c.in-Ok-take.report _
     (line_taken c.in-Ok-take.report c.in-Ok-Some.kind (content_read c.next_line.new.self) c.lines.invariant reads.0 (rw c.lists.ensures at c.in-Ok-take.ensures))
     c.in_err-tell-in-Ok-take.ensures.part)
 
 pub returns-in-Err-take : goal.returns-in-Err-take
-returns-in-Err-take g c = cut_here c.lines.invariant
+returns-in-Err-take g c =
+    subst (Leaves (g.P.Read.remaining c.args.proof) (g.W.Write.contents c.args.out.now) (g.W.Write.contents c.lines.out)) (sym c.fault_of.ensures)
+    (stopped_run c.in-Err-take.stop _ c.lines.invariant)
 
 pub returns-in-Ok-None : goal.returns-in-Ok-None
 returns-in-Ok-None g c =
@@ -37,4 +40,4 @@ returns-in-Ok-None g c =
     (rw c.in-Ok-None.field-0-is at c.in-Ok-None.ensures.reads) c.finish.ensures
 
 pub returns-in-Err-next_line : goal.returns-in-Err-next_line
-returns-in-Err-next_line g c = cut_here c.lines.invariant
+returns-in-Err-next_line g c = faulty_run g.P.Read.remaining c.lines.reader c.next_line.new.self c.in-Err-next_line.fault c.lines.invariant c.in-Err-next_line.ensures.reads

@@ -1,4 +1,3 @@
-use Rattle.std.proofs.Common.{ℕ}
 use Rattle.session_text.specs.NextLine.{bytes_left, left_to_say, room_left}
 use Rattle.session_check.specs.Progress.{progress_of}
 use Rattle.session_check.proofs.RunLemmas.{SoFar}
