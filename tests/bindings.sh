@@ -59,7 +59,9 @@ library=$prefix/lib/libcefindrato.a
 header=$prefix/include
 
 # other libraries of the toolchain define the names that are hidden here
-wanted='cefindrato_drat_check cefindrato_lrat_check cefindrato_model_check cefindrato_version '
+session=cefindrato_session
+wanted="cefindrato_drat_check cefindrato_lrat_check cefindrato_model_check ${session}_begin ${session}_delete ${session}_derive \
+${session}_end ${session}_fails ${session}_give ${session}_satisfies cefindrato_version "
 for names in "nm -g $library" "nm -D $prefix/lib/libcefindrato.so"; do
   exported=$($names --defined-only | awk 'NF == 3 { print $3 }' | sort | tr '\n' ' ')
   if [[ $exported != "$wanted" ]]; then
@@ -72,19 +74,34 @@ cc -std=c99 -O2 -Wall -Wextra -Werror -pthread -I"$header" -o "$work/c" "$own/te
 "$work/c" "$cnf" "$proof"
 cc -g -fsanitize=address,undefined -fno-sanitize-recover=all -pthread -I"$header" -o "$work/checked" "$own/test.c" "$library"
 "$work/checked" "$cnf" "$proof"
+cc -std=c99 -O2 -Wall -Wextra -Werror -I"$header" -o "$work/session" "$own/session.c" "$library"
+"$work/session" 6
+cc -g -fsanitize=address,undefined -fno-sanitize-recover=all -I"$header" -o "$work/session_checked" "$own/session.c" "$library"
+"$work/session_checked" 5
+cc -std=c99 -O2 -Wall -Wextra -Werror -I"$header" -o "$work/example" "$top/bindings/c/session_example.c" "$library"
+if [[ $("$work/example") != $'unsatisfiable under -2: shown\nsatisfiable: shown' ]]; then
+  echo "the example: $("$work/example")"
+  exit 1
+fi
 cc -std=c99 -O2 -Wall -Wextra -Werror -I"$header" -Wl,--wrap=malloc,--wrap=realloc -o "$work/memory" "$own/memory.c" "$library"
 "$work/memory"
 if has valgrind; then
   valgrind -q --leak-check=full --error-exitcode=9 "$work/c" "$cnf" "$proof"
   valgrind -q --leak-check=full --error-exitcode=9 "$work/memory"
+  valgrind -q --leak-check=full --error-exitcode=9 "$work/session" 3
   valgrind -q --tool=helgrind --error-exitcode=9 "$work/c" "$cnf" "$proof"
 fi
 if has c++; then
   c++ -O2 -Wall -Werror -pthread -x c++ -I"$header" -o "$work/c_as_cpp" "$own/test.c" -x none "$library"
   "$work/c_as_cpp" "$cnf" "$proof"
+  c++ -O2 -Wall -Werror -x c++ -I"$header" -o "$work/session_as_cpp" "$own/session.c" -x none "$library"
+  "$work/session_as_cpp" 3
   c++ -std=c++17 -g -fsanitize=address,undefined -fno-sanitize-recover=all -Wall -Wextra -Werror -pthread -I"$header" -o "$work/cpp" \
     "$own/test.cpp" "$library"
   "$work/cpp" "$cnf" "$proof"
+  c++ -std=c++17 -g -fsanitize=address,undefined -fno-sanitize-recover=all -Wall -Wextra -Werror -I"$header" -o "$work/session_cpp" \
+    "$own/session.cpp" "$library"
+  "$work/session_cpp"
 fi
 
 # projects outside the repository: C by pkg-config, and by the static library alone

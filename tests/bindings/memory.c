@@ -1,6 +1,6 @@
 /* Each growth of each call is refused, alone and with all that come after it; exits 0 if each answers what it must: what it answers
  * with memory, or that there was none. Linked with --wrap=malloc and --wrap=realloc. */
-#include "cefindrato.h"
+#include "cefindrato_session.h"
 #include <stdio.h>
 #include <stdlib.h>
 #include <string.h>
@@ -89,9 +89,67 @@ static void refuse(const char *name, struct told (*call)(const char *), const ch
     }
 }
 
+/* The calls of a session, each of which is accepted. */
+static cefindrato_session_answer session_call(cefindrato_session *session, int call) {
+    static const int32_t first[] = {1, 2}, second[] = {-1}, lemma[] = {2}, core[] = {-2};
+    static const uint64_t hints[] = {2, 1}, lemma_hints[] = {3};
+    switch (call) {
+    case 0:
+        return cefindrato_session_begin(session);
+    case 1:
+        return cefindrato_give(session, 1, first, 2);
+    case 2:
+        return cefindrato_give(session, 2, second, 1);
+    case 3:
+        return cefindrato_derive(session, 3, lemma, 1, hints, 2);
+    case 4:
+        return cefindrato_delete(session, hints, 1);
+    case 5:
+        return cefindrato_fails(session, core, 1, core, 1, lemma_hints, 1);
+    default:
+        return cefindrato_satisfies(session, second, 1, core, 0);
+    }
+}
+
+/* A session with refusals, up to one that meets none. A call that answers that there was no memory is made again with memory, so it
+ * must have left the session as it was. The last call has no model, and is rejected. */
+static void refuse_session(bool all) {
+    long at, without = 0;
+    for (at = 1;; at++) {
+        cefindrato_session session = {NULL, false};
+        int call;
+        growths = refusals = 0;
+        refused_at = at;
+        refuses_on = all;
+        for (call = 0; call < 7; call++) {
+            cefindrato_session_answer told = session_call(&session, call);
+            if (told.status == CEFINDRATO_OUT_OF_MEMORY) {
+                without++;
+                refused_at = 0;
+                if (told.cause || told.clause)
+                    wrong = 1;
+                told = session_call(&session, call);
+            }
+            if (call < 6 ? told.status != CEFINDRATO_VERIFIED : told.cause != CEFINDRATO_MISSES_ASSUMPTION) {
+                printf("session, growth %ld, call %d: status %d, cause %d\n", at, call, told.status, told.cause);
+                wrong = 1;
+            }
+        }
+        refused_at = 0;
+        cefindrato_session_end(&session);
+        if (refusals == 0 || wrong)
+            break;
+    }
+    if (without == 0) {
+        printf("session: nothing answers that there is no memory\n");
+        wrong = 1;
+    }
+}
+
 int main(void) {
     int all;
     for (all = 0; all < 2; all++) {
+        refuse_session(all);
         refuse("LRAT", lrat_call, "6 1 0 2 3 0\n7 0 6 4 5 0\n", all);
         refuse("LRAT that is refused", lrat_call, "6 1 0 2 3 0\n7 0 6 4 0\n", all);
         refuse("DRAT", drat_call, "1 0\n0\n", all);

@@ -51,6 +51,27 @@ def of_models():
     assert refused(cefindrato.check_model, b"1 x", said) == "formula: line 1: bad number"
 
 
+def of_sessions():
+    with cefindrato.Session() as session:
+        session.give(1, [1, 2])
+        session.give(2**64 - 1, [-1])
+        assert refused(session.give, 1, [3]) == "id is taken"
+        assert refused(session.give, 3, [0]) == refused(session.give, 3, [2**40]) == "a number is no literal"
+        session.derive(3, [2], [2**64 - 1, 1])
+        assert refused(session.derive, 4, [-3], []) == "hints end without a conflict"
+        session.fails([-2, 3], [-2], [3])
+        assert refused(session.fails, [3], [-2], [3]) == "a literal of the core was not assumed"
+        session.satisfies([2], [2, -1])
+        assert refused(session.satisfies, [], [2]) == "the model has no literal of clause 2"
+        session.delete([3, 9])
+        assert refused(session.fails, [-2], [-2], [3]) == "no clause has the id of a hint"
+        with cefindrato.Session() as other:
+            other.satisfies([], [])
+        session.fails([-2], [-2], [2**64 - 1, 1])
+    assert refused(session.give, 1, [1]) == "there is no session"
+    session.close()
+
+
 def of_bytes(cnf_name, text):
     """Each kind of bytes has the same answer, and what has none is no text."""
     with open(cnf_name, "rb") as file, mmap.mmap(file.fileno(), 0, access=mmap.ACCESS_READ) as mapped:
@@ -138,6 +159,7 @@ def main(cnf_name, proof_name):
     assert answers == [True, unfinished] * 16
     of_drat()
     of_models()
+    of_sessions()
     of_bytes(cnf_name, text)
     of_command(cnf_name, proof_name)
     assert cefindrato.library.version() == cefindrato.__version__

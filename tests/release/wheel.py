@@ -127,7 +127,8 @@ def of_nothing(folder):
         "Running": [(None,), (cnf, None)],
         "where": [(None,)],
     }
-    assert sorted(rows) == sorted(it for it in cefindrato.__all__ if it not in ("Checked", "Fault", "Model", "OutOfMemory"))
+    no_calls = ("Checked", "Fault", "Model", "OutOfMemory", "Session")
+    assert sorted(rows) == sorted(it for it in cefindrato.__all__ if it not in no_calls)
     for name, calls in rows.items():
         for arguments in calls:
             try:
@@ -195,6 +196,19 @@ def by_solver():
     assert refused(cefindrato.solve, clauses, solver="./none") == "cannot run ./none"
 
 
+def of_session():
+    """What a session takes: tests/bindings/test.py has the rest."""
+    with cefindrato.Session() as session:
+        for call in (session.delete, lambda lits: session.give(1, lits), lambda lits: session.satisfies([], lits)):
+            try:
+                call(None)
+            except TypeError:
+                continue
+            raise AssertionError("None is taken for a list")
+        session.give(1, [1])
+        session.satisfies([1], [1])
+
+
 def by_library(data):
     for name in ("board6", "grid5", "par10"):
         with open(f"{data}/{name}.cnf", "rb") as cnf, open(f"{data}/{name}.lrat", "rb") as lrat:
@@ -226,4 +240,5 @@ with tempfile.TemporaryDirectory() as own:
     if all(map(has, ("checked", "drat_check", "model_check"))) and shutil.which("cadical"):
         os.chdir(own)
         by_solver()
+    of_session()
     by_library(sys.argv[1])

@@ -8,13 +8,14 @@
 
 These three run the proved programs, over files, texts or lists; a clause has no 0 behind it. In this process, by the library, `check` checks an LRAT proof against a
 formula's text, `check_drat` a DRAT or FRAT proof, and `check_model` a solver's answer. `Running` checks a proof that is still being
-written. A Fault says why there is no verdict.
+written, and `Session` each answer of an incremental solver. A Fault says why there is no verdict.
 """
 
 from .faults import Fault, OutOfMemory
 from .library import Checked, Model, check, check_drat, check_model
 from .programs import check_sat, check_unsat, solve
 from .running import Running, where
+from .session import Session
 
 __all__ = [
     "Checked",
@@ -22,6 +23,7 @@ __all__ = [
     "Model",
     "OutOfMemory",
     "Running",
+    "Session",
     "check",
     "check_drat",
     "check_model",

@@ -85,7 +85,7 @@ _release_buffer.restype = None
 
 
 @lru_cache(maxsize=None)
-def _library() -> ctypes.CDLL:
+def loaded() -> ctypes.CDLL:
     beside = os.path.join(os.path.dirname(os.path.abspath(__file__)), "libcefindrato.so")
     library = ctypes.CDLL(os.environ.get("CEFINDRATO_LIBRARY") or (beside if os.path.isfile(beside) else "libcefindrato.so"))
     library.cefindrato_lrat_check.argtypes = _pointer * 3
@@ -121,7 +121,7 @@ def check(cnf: Text, proof: Text) -> bool:
     """Whether the LRAT proof, text or binary, shows that no assignment satisfies the formula; a Fault where it is refused."""
     room = ctypes.create_string_buffer(_ROOM)
     with _held(cnf) as formula, _held(proof) as lines:
-        answer = _library().cefindrato_lrat_check(*formula, *lines, ctypes.addressof(room), _ROOM)
+        answer = loaded().cefindrato_lrat_check(*formula, *lines, ctypes.addressof(room), _ROOM)
     return _is_verified(answer, room)
 
 
@@ -142,7 +142,7 @@ def check_drat(cnf: Text, proof: Text, format: str = "told", lrat: bool = False,
         while True:
             lines = ctypes.create_string_buffer(size)
             rooms = [argument for it in (lines, used, room) for argument in (ctypes.addressof(it), len(it))]
-            answer = _library().cefindrato_drat_check(*formula, *steps, options, *rooms)
+            answer = loaded().cefindrato_drat_check(*formula, *steps, options, *rooms)
             if answer.lrat.len == answer.lrat.whole:
                 break
             size = answer.lrat.whole
@@ -159,7 +159,7 @@ def check_model(cnf: Text, answer: Text) -> Model:
     refused."""
     room = ctypes.create_string_buffer(_ROOM)
     with _held(cnf) as formula, _held(answer) as literals:
-        told = _library().cefindrato_model_check(*formula, *literals, ctypes.addressof(room), _ROOM)
+        told = loaded().cefindrato_model_check(*formula, *literals, ctypes.addressof(room), _ROOM)
     if _is_verified(told, room):
         return Model(True, None, None)
     return Model(False, told.clause, told.line)
@@ -167,5 +167,5 @@ def check_model(cnf: Text, answer: Text) -> Model:
 
 def version() -> str:
     """The version of the library."""
-    number = _library().cefindrato_version()
+    number = loaded().cefindrato_version()
     return f"{number // 10000}.{number // 100 % 100}.{number % 100}"

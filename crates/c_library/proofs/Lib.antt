@@ -1,2 +1,3 @@
+mod AcceptedCalls
 mod DratOutputs
 mod VerifiedRuns

@@ -1,4 +1,5 @@
 pub mod DratCalls
 pub mod ModelCalls
 pub mod Rooms
+pub mod SessionCalls
 pub mod Statuses

@@ -1,11 +1,12 @@
-//! The checkers for callers in C: over texts in memory.
+//! The checkers for callers in C: over texts in memory, and sessions of queries.
 //!
-//! Nothing is kept between calls, so calls from several threads share nothing.
+//! Between calls only sessions keep anything, so calls from several threads share nothing else.
 #![tactic(auto)]
 
 mod drat;
 mod lrat;
 mod model;
 mod room;
+mod session;
 mod status;
 mod version;

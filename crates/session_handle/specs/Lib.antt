@@ -1,0 +1,5 @@
+pub mod Answers
+pub mod Causes
+pub mod Held
+pub mod Numbers
+pub mod Places
