@@ -1,6 +1,7 @@
 #!/usr/bin/env bash
 # Circuits in AIGER, and `circuit_check` on them: random circuits and texts that are nearly ones, by tests/circuit_check/circuits.py;
-# random machines and invariants, by tests/circuit_check/machines.py; and a machine in Verilog with the invariant of a model checker.
+# names of inputs and outputs, by tests/circuit_check/names.py; random machines and invariants, by tests/circuit_check/machines.py; and
+# a machine in Verilog with the invariant of a model checker.
 # It uses cadical, yosys and berkeley-abc, if they are installed.
 #
 #   tests/circuit_check.sh [COUNT [SEED]]
@@ -32,11 +33,64 @@ trap 'rm -rf "$work"' EXIT
       exit 1
     fi
   done
+  # (names are of `same` alone; a run with names that differ writes no line)
+  printf 'aig 3 2 0 1 1\n6\n\2\2i1 x\n' > x.aig
+  printf 'aag 3 2 0 1 1\n2\n4\n6\n6 4 2\ni1 y\n' > y.aig
+  printf '%s 0\n' -5 4 3 2 '' > proof
+  said() {
+    local status=0
+    "$check" "${@:3}" > said 2> err || status=$?
+    if [[ "$status $(cat said err)" != "$1 $2" ]]; then
+      echo "WRONG ${*:3}: status $status, $(cat said err), and not $1 $2"
+      exit 1
+    fi
+  }
+  differ='names differ: input 1 is x, and in the second circuit y'
+  said 0 "s VERIFIED SAME"$'\n'"warning: $differ" same x.aig y.aig --proof proof
+  said 1 "$differ" same x.aig y.aig --proof proof --names
+  said 0 's VERIFIED SAME' same x.aig x.aig --proof proof --names
+  said 0 's VERIFIED SAME' same x.aig one.aig --proof proof --names
+  status=0
+  "$check" never x.aig --proof proof --names > said 2> err || status=$?
+  if [[ "$status $(head -n 1 err)" != '2 --names is of same' || -s said ]]; then
+    echo "WRONG never --names: status $status, $(cat said err)"
+    exit 1
+  fi
   echo kept > formula
   if "$check" never cut.aig --formula formula > said 2> err || [[ $(cat formula) != kept ]]; then
     echo "WRONG the formula of a circuit that is cut off: $(cat said err formula)"
     exit 1
   fi
+)
+# An answer is not a proof, and of a machine there is none; circuits that are compared have as many inputs and outputs.
+(
+  cd "$work"
+  printf 's SATISFIABLE\nv 2 3 0\n' > answer
+  printf 'aig 1 1 0 1 0\n2\n' > input.aig
+  printf 'aig 3 2 0 2 1\n6\n2\n\2\2' > outputs.aig
+  printf 'aig 1 0 1 1 0\n2\n2\n' > latch.aig
+  # ends STATUS FIRST COMMAND..: it must end so, print nothing, and say this in its first line
+  ends() {
+    local status=0
+    "${@:3}" > said 2> err || status=$?
+    if [[ $status != "$1" || -s said || $(head -n 1 err) != "$2" ]]; then
+      echo "WRONG ${*:3}: status $status, $(cat said err)"
+      exit 1
+    fi
+  }
+  for claim in 'never one.aig' 'same one.aig two.aig'; do
+    # shellcheck disable=SC2086 # several words
+    for other in '--proof proof' '--formula formula' '--init-proof proof'; do
+      ends 2 'one of --proof, --answer and --formula' "$check" $claim --answer answer $other
+    done
+  done
+  ends 2 '--init-proof, --step-proof and --bad-proof, or --init-formula, --step-formula and --bad-formula' \
+    "$check" safe one.aig two.aig --answer answer
+  ends 1 'a circuit with latches, bad outputs or constraints' "$check" never latch.aig --answer answer
+  ends 1 'a circuit with latches, bad outputs or constraints' "$check" same one.aig latch.aig --answer answer
+  ends 1 'the circuits have different numbers of inputs' "$check" same one.aig input.aig --answer answer
+  ends 1 'the circuits have different numbers of outputs' "$check" same one.aig outputs.aig --answer answer
+  ends 2 'cannot open absent' "$check" never one.aig --answer absent
 )
 # An arbiter by yosys and its invariant by berkeley-abc: the machine is safe, and without any one of its cubes nothing shows it.
 if [[ $(command -v yosys berkeley-abc cadical | wc -l) == 3 ]]; then
@@ -64,9 +118,20 @@ if [[ $(command -v yosys berkeley-abc cadical | wc -l) == 3 ]]; then
     python3 -B "$top/tests/circuit_check/invariant.py" arbiter.aig fewer invariant.aig
     shown "s NOT VERIFIED"
     echo "arbiter: $(wc -l < all) cubes"
+    # two inputs of a design in the other order: yosys names them, and no proof shows that it is the same
+    for ports in 'a, b' 'b, a'; do
+      echo "module m(input $ports, output y); assign y = a & ~b; endmodule" > ports.v
+      yosys -q -p "read_verilog ports.v; synth -flatten -top m; aigmap; opt_clean; write_aiger -symbols ${ports:0:1}.aig" > said 2>&1 || cat said
+    done
+    "$check" same a.aig b.aig --formula ports.cnf 2> err
+    if [[ $(cat err) != 'warning: names differ: input 0 is a, and in the second circuit b' ]]; then
+      echo "WRONG names by yosys: $(cat err)"
+      exit 1
+    fi
   )
 else
   echo "yosys, berkeley-abc or cadical is not installed: no arbiter"
 fi
+python3 -B "$top/tests/circuit_check/names.py" "$check" "${1:-100}" "${2:-1}"
 python3 -B "$top/tests/circuit_check/machines.py" "$check" "${1:-60}" "${2:-1}"
 python3 -B "$top/tests/circuit_check/circuits.py" "$check" "${1:-200}" "${2:-1}"

@@ -4,8 +4,8 @@
 circuits.py PROGRAM COUNT SEED      COUNT texts, of which some are no circuits, and COUNT pairs of circuits
 
 A text that is no circuit is rejected with its first fault, by aiger.py. The formula that is written is that of formulas.py. What is
-so is found by simulation of all inputs. Where cadical is installed, its proof of a true claim is verified, and no proof shows a
-claim that is false.
+so is found by simulation of all inputs. Where cadical is installed, its proof of a true claim is verified, no proof shows a claim
+that is false, and its answer to such a claim is verified. An answer with any other input is verified if the claim fails for it.
 """
 import itertools
 import os
@@ -39,6 +39,36 @@ def results(c):
     for inputs in itertools.product((False, True), repeat=c.inputs):
         of = c.values(inputs)
         yield [of[lit] for lit in c.outputs]
+
+
+def digits(values):
+    return "".join("01"[value] for value in values)
+
+
+def verdict(circuits, inputs):
+    """The status and the lines for an answer with these inputs."""
+    rows = []
+    for c in circuits:
+        of = c.values(inputs)
+        rows.append([of[lit] for lit in c.outputs])
+    if len(rows) == 1 and any(rows[0]):
+        line = "s VERIFIED POSSIBLE"
+    elif len(rows) == 2 and rows[0] != rows[1]:
+        line = "s VERIFIED DIFFERENT"
+    else:
+        return 3, "s NOT VERIFIED\n"
+    return 0, "".join(f"{it}\n" for it in [line, f"i {digits(inputs)}", *(f"o {digits(row)}" for row in rows)])
+
+
+def answer(rng, inputs):
+    """An answer with these inputs: input N is the variable N+1 of the formula. What is false may be left out; other variables have
+    any values."""
+    lits = [number + 2 if value else -number - 2 for number, value in enumerate(inputs)]
+    lits = [lit for lit in lits if lit > 0 or rng.random() < 0.5]
+    lits += [number * rng.choice([1, -1]) for number in range(len(inputs) + 2, len(inputs) + 5)]
+    lits += rng.choice([[], [1], [-1]])
+    rng.shuffle(lits)
+    return "s SATISFIABLE\nv " + " ".join(str(lit) for lit in [*lits, 0]) + "\n"
 
 
 class Runs:
@@ -90,11 +120,37 @@ class Runs:
         if SOLVER:
             solved = subprocess.run([SOLVER, "-q", cnf, proof], capture_output=True, check=False).returncode
             self.expect(words, solved, 20 if is_so else 10)
+            if not is_so:
+                self.solved(words, cnf)
         status, out, _ = self.run(*words, "--proof", proof)
         if not is_so:
             self.expect(words, (status, out), (3, "s NOT VERIFIED\n"))
         elif SOLVER:
             self.expect(words, (status, out), (0, line))
+
+    def solved(self, words, cnf):
+        """The answer of a solver to a claim that is false."""
+        said = subprocess.run([SOLVER, "-q", cnf], capture_output=True, check=False).stdout
+        status, out, _ = self.run(*words, "--answer", self.put("claim.answer", said))
+        circuits = [self.read(name) for name in words[1:]]
+        lines = out.splitlines()
+        self.expect(words, lines[1][:2], "i ")
+        self.expect(words, (status, out), verdict(circuits, [it == "1" for it in lines[1][2:]]))
+        self.expect(words, status, 0)
+
+    def read(self, name):
+        with open(name, "rb") as file:
+            return aiger.read(file.read())
+
+    def answers(self, rng, words):
+        """Answers with each input in turn, whatever the claim, and one that is none."""
+        circuits = [self.read(name) for name in words[1:]]
+        for inputs in itertools.product((False, True), repeat=circuits[0].inputs):
+            said = answer(rng, inputs)
+            status, out, _ = self.run(*words, "--answer", self.put("claim.answer", said.encode()))
+            self.expect((words, said), (status, out), verdict(circuits, inputs))
+        status, out, err = self.run(*words, "--answer", self.put("claim.answer", b"s UNSATISFIABLE\n"))
+        self.expect(words, (status, out, err), (1, "", "answer: line 1: the answer is UNSATISFIABLE\n"))
 
 
 def main():
@@ -115,6 +171,8 @@ def main():
             runs.claim(["never", names[0]], formulas.never(one), never, "s VERIFIED NEVER\n")
             same = list(results(one)) == list(results(other))
             runs.claim(["same", *names], formulas.same(one, other), same, "s VERIFIED SAME\n")
+            runs.answers(rng, ["never", names[0]])
+            runs.answers(rng, ["same", *names])
         if not SOLVER:
             print("cadical is not installed: no proof tried")
         print(f"circuit_check: {count} texts and {count} pairs of circuits, {runs.wrong} wrong")

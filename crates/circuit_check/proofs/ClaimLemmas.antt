@@ -21,7 +21,7 @@ use Rattle.verdicts.specs.declared.verdict.Verdict.TheVariants.{Verified}
 use Rattle.circuit_check.specs.declared.fault.CircuitFault.{CircuitFault}
 use Rattle.circuit_check.specs.Claims.{HaveWritten, IsAppended, IsInductionText, IsNeverFormula, IsNeverText, IsSafeText, IsSameFormula, IsSameText, RefutesAll}
 
-said_by : (known : Option (List ℕ)) (said : List ℕ) (o : Outcome) → known ≡ Some said → IsOutcome known o → outcome_of said ≡ o
+pub said_by : (known : Option (List ℕ)) (said : List ℕ) (o : Outcome) → known ≡ Some said → IsOutcome known o → outcome_of said ≡ o
 said_by known said o e h = rw e at h
 
 refuted_as : (formula cs : List (List ℕ)) → formula ≡ cs → IsRefuted formula → IsRefuted cs

@@ -2,7 +2,9 @@
 --     IsNeverText text      the text says a circuit that is never true
 --     IsSameText text text'      both texts say circuits, which are the same
 --     IsSafeText text      the text says a machine that is safe
-use Rattle.std.specs.Prelude.{◌≡◌, ℕ, List, [], Option}
+--     IsPossibleText text      the text says a circuit, and some input makes an output true
+--     AreDifferentText text text'      both texts say circuits, which differ for some input
+use Rattle.std.specs.Prelude.{◌≡◌, ℕ, List, [], Option, length}
 use Rattle.std.specs.Io.KnownBytes.{Appends}
 use Rattle.sat_output.specs.FormulaTexts.{formula_text}
 use Rattle.cube_rules.specs.Cubes.{IsRefuted}
@@ -12,6 +14,7 @@ use Rattle.circuit_text.specs.Aigers.{Says, outcome_of}
 use Rattle.circuit_text.specs.declared.circuit.Circuit as read
 use Rattle.circuit_text.specs.Circuits.{Circuit, circuit_of}
 use Rattle.circuit_text.specs.Reading.{IsRead}
+use Rattle.circuit_answers.specs.Answers.{AreDifferent, IsPossible}
 use Rattle.circuit_clauses.specs.declared.induction.Induction.{Induction}
 use Rattle.circuit_clauses.specs.declared.induction.Part.TheVariants.{Initial, Step, Bad}
 use Rattle.circuit_clauses.specs.Formulas.{HasNever, HasSame}
@@ -46,6 +49,25 @@ pub record IsSafeText (text : List ℕ) : Type 0 where
   pub circuit : Circuit
   pub says : outcome_of text ≡ Says circuit
   pub safe : IsSafe (machine_of circuit)
+
+-- the text says a circuit of gates and outputs alone, and some input makes an output true
+pub record IsPossibleText (text : List ℕ) : Type 0 where
+  pub circuit : Circuit
+  pub says : outcome_of text ≡ Says circuit
+  pub shape : IsCombinational circuit
+  pub possible : IsPossible circuit.gates circuit.outputs
+
+-- the texts say two such circuits with as many inputs and outputs, and for some input their outputs differ
+pub record AreDifferentText (text text' : List ℕ) : Type 0 where
+  pub circuit : Circuit
+  pub circuit' : Circuit
+  pub says : outcome_of text ≡ Says circuit
+  pub says' : outcome_of text' ≡ Says circuit'
+  pub shape : IsCombinational circuit
+  pub shape' : IsCombinational circuit'
+  pub inputs : circuit.inputs ≡ circuit'.inputs
+  pub outputs : length circuit.outputs ≡ length circuit'.outputs
+  pub different : AreDifferent circuit.gates circuit.outputs circuit'.gates circuit'.outputs
 
 -- ---- formulas
 

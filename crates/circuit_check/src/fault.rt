@@ -1,4 +1,5 @@
 //! Why a run comes to no verdict.
+use answer_text::AnswerFault;
 use circuit_clauses::ClausesFault;
 use circuit_text::AigerFault;
 use drat_check::RunFault;
@@ -20,6 +21,9 @@ pub enum CircuitFault {
     /// There is no formula of the circuits.
     #[error("{0}")]
     NoFormula(ClausesFault),
+    /// The answer was not read whole, or is not that the formula is satisfiable.
+    #[error("answer: {0}")]
+    Answer(AnswerFault),
     /// There is no verdict on the proof.
     #[error("{0}")]
     Proof(RunFault),

@@ -1,7 +1,7 @@
 //! The formulas of circuits' texts.
-ghost use Rattle.std.specs.Prelude.{IfErr, IfOk, Err};
+ghost use Rattle.std.specs.Prelude.{IfErr, IfOk};
 ghost use Rattle.circuit_check.specs.Claims.{IsInductionText, IsNeverFormula, IsSameFormula};
-ghost use Rattle.circuit_check.specs.Runs.{IsSilent};
+ghost use Rattle.circuit_check.specs.Reads.{FailsBoth, FailsGates, FailsNever, FailsRead, FailsSafe, FailsSame, IsGates};
 ghost use Rattle.circuit_text.specs.Reading.{IsRead};
 
 use crate::fault::CircuitFault;
@@ -15,15 +15,12 @@ use std::io::Read;
 /// Reads a circuit, and returns the formula that is refuted if the circuit is never true.
 pub(crate) fn read_never<A: Read + Drop>(alloc: Global, text: A) -> Result<CnfFormula, CircuitFault>
     ensures formula { IfOk result (IsNeverFormula (A.remaining text)) }
-    ensures early { IfErr result (λ fault. IsSilent (Err fault)) }
+    ensures fault { IfErr result (FailsNever (A.remaining text)) }
 {
-    let circuit = match read_circuit(alloc, text) {
+    let circuit = match read_gates(alloc, text) {
         Ok(circuit) => circuit,
-        Err(fault) => return Err(CircuitFault::Unread(fault)),
+        Err(fault) => return Err(fault),
     };
-    if !is_combinational(&circuit) {
-        return Err(CircuitFault::Sequential);
-    }
     match never_formula(alloc, &circuit) {
         Ok(formula) => Ok(formula),
         Err(fault) => Err(CircuitFault::NoFormula(fault)),
@@ -37,23 +34,54 @@ pub(crate) fn read_same<A: Read + Drop, B: Read + Drop>(
     other: B,
 ) -> Result<CnfFormula, CircuitFault>
     ensures formula { IfOk result (IsSameFormula (A.remaining text) (B.remaining other)) }
-    ensures early { IfErr result (λ fault. IsSilent (Err fault)) }
+    ensures fault { IfErr result (FailsSame (A.remaining text) (B.remaining other)) }
 {
-    let first = match read_circuit(alloc, text) {
-        Ok(circuit) => circuit,
-        Err(fault) => return Err(CircuitFault::Unread(fault)),
+    let (first, second) = match read_both(alloc, text, other) {
+        Ok(circuits) => circuits,
+        Err(fault) => return Err(fault),
     };
-    let second = match read_circuit(alloc, other) {
-        Ok(circuit) => circuit,
-        Err(fault) => return Err(CircuitFault::OtherUnread(fault)),
-    };
-    if !is_combinational(&first) || !is_combinational(&second) {
-        return Err(CircuitFault::Sequential);
-    }
     match same_formula(alloc, &first, &second) {
         Ok(formula) => Ok(formula),
         Err(fault) => Err(CircuitFault::NoFormula(fault)),
     }
+}
+
+/// Reads a circuit of gates and outputs alone.
+pub(crate) fn read_gates<A: Read + Drop>(alloc: Global, text: A) -> Result<Circuit, CircuitFault>
+    ensures gates { IfOk result (IsGates (A.remaining text)) }
+    ensures fault { IfErr result (FailsGates (A.remaining text)) }
+{
+    let circuit = match read_circuit(alloc, text) {
+        Ok(circuit) => circuit,
+        Err(fault) => return Err(CircuitFault::Unread(fault)),
+    };
+    if !is_combinational(&circuit) {
+        return Err(CircuitFault::Sequential);
+    }
+    Ok(circuit)
+}
+
+/// Reads two such circuits, the first one first.
+pub(crate) fn read_both<A: Read + Drop, B: Read + Drop>(
+    alloc: Global,
+    text: A,
+    other: B,
+) -> Result<(Circuit, Circuit), CircuitFault>
+    ensures first { IfOk result (λ read. IsGates (A.remaining text) read.0) }
+    ensures second { IfOk result (λ read. IsGates (B.remaining other) read.1) }
+    ensures fault { IfErr result (FailsBoth (A.remaining text) (B.remaining other)) }
+{
+    let (first, second) = match read_two(alloc, text, other) {
+        Ok(circuits) => circuits,
+        Err(fault) => return Err(fault),
+    };
+    if !is_combinational(&first) {
+        return Err(CircuitFault::Sequential);
+    }
+    if !is_combinational(&second) {
+        return Err(CircuitFault::Sequential);
+    }
+    Ok((first, second))
 }
 
 /// Reads a machine and an invariant.
@@ -63,9 +91,12 @@ pub(crate) fn read_safe<A: Read + Drop, B: Read + Drop>(
     invariant: B,
 ) -> Result<Induction, CircuitFault>
     ensures induction { IfOk result (IsInductionText (A.remaining machine) (B.remaining invariant)) }
-    ensures early { IfErr result (λ fault. IsSilent (Err fault)) }
+    ensures fault { IfErr result (FailsSafe (A.remaining machine) (B.remaining invariant)) }
 {
-    let (machine, invariant) = read_two(alloc, machine, invariant)?;
+    let (machine, invariant) = match read_two(alloc, machine, invariant) {
+        Ok(circuits) => circuits,
+        Err(fault) => return Err(fault),
+    };
     match Induction::of(alloc, machine, &invariant) {
         Ok(induction) => Ok(induction),
         Err(fault) => Err(CircuitFault::NoFormula(fault)),
@@ -80,7 +111,7 @@ fn read_two<A: Read + Drop, B: Read + Drop>(
 ) -> Result<(Circuit, Circuit), CircuitFault>
     ensures first { IfOk result (λ read. IsRead (A.remaining text) read.0) }
     ensures second { IfOk result (λ read. IsRead (B.remaining other) read.1) }
-    ensures early { IfErr result (λ fault. IsSilent (Err fault)) }
+    ensures fault { IfErr result (FailsRead (A.remaining text) (B.remaining other)) }
 {
     let first = match read_circuit(alloc, text) {
         Ok(circuit) => circuit,

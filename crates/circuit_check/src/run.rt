@@ -1,19 +1,19 @@
 //! Runs: circuits are read, a proof is checked against their formula, and the verdict is written.
-ghost use Rattle.std.specs.Prelude.{◌≡◌, ℕ, List, IfErr, IfOk, OnOk, Err, Ok, Some};
+ghost use Rattle.std.specs.Prelude.{◌≡◌, ℕ, List, IfErr, IfOk, OnOk, Ok, Some};
 ghost use Rattle.std.specs.Io.KnownBytes.{Appends};
 ghost use Rattle.circuit_check.specs.Claims.{HasWritten, IsNeverFormula, IsNeverText, IsSameFormula, IsSameText};
-ghost use Rattle.circuit_check.specs.Runs.{IsSilent, IsWritten};
+ghost use Rattle.circuit_check.specs.Reads.{FailsNever, FailsSame};
+ghost use Rattle.circuit_check.specs.Runs.{BeginsClaim, IsClaimRun, IsSilent, IsUnwritten, IsWritten};
 ghost use Rattle.circuit_check.specs.Verdicts.{claim_line};
 ghost use Rattle.circuit_check.specs.declared.line.Claim.TheVariants as claims;
 ghost use Rattle.cube_rules.specs.Cubes.{IsRefuted};
 ghost use Rattle.sat_output.specs.FormulaTexts.{formula_text};
 ghost use Rattle.verdicts.specs.declared.verdict.Verdict.TheVariants.{Verified};
+ghost use Rattle.whole_writes.specs.Beginnings.{AppendsBeginning};
 
 use crate::fault::CircuitFault;
 use crate::formulas::{read_never, read_same};
 use crate::line::Claim;
-use crate::shape::is_combinational;
-use circuit_clauses::{never_formula, same_formula};
 use drat_check::{LineForm, Outputs, ProofFormat, RunCounts, RunFault, Verdict, run_proof};
 use log::Log;
 use sat_formula::CnfFormula;
@@ -32,8 +32,9 @@ use whole_writes::write_whole;
 /// # Errors
 ///
 /// `Unread` if the circuit can't be read, `Sequential` if it has more than gates, `NoFormula` if
-/// there is no formula of it, `Proof` if the proof is rejected or can't be read. `Write` if the
-/// line could not be written whole.
+/// there is no formula of it, `Proof` if the proof is rejected or can't be read; nothing is written
+/// then. `Write` if the line of a verdict that was reached could not be written whole: a beginning
+/// of it is.
 pub fn run_never<R: Log, A: Read + Drop, P: Read + Drop, W: Write>(
     rt: &R,
     alloc: Global,
@@ -42,9 +43,13 @@ pub fn run_never<R: Log, A: Read + Drop, P: Read + Drop, W: Write>(
     format: ProofFormat,
     out: &mut W,
 ) -> Result<Verdict, CircuitFault>
+    ensures run { IsClaimRun (IsNeverFormula (A.remaining text)) (FailsNever (A.remaining text))
+        result }
     ensures line { IfOk result (λ verdict.
         Appends (W.contents out.old) (W.contents out.new) (claim_line claims.Never verdict)) }
     ensures silent { IsSilent result → out.new ≡ out.old }
+    ensures unwritten { IsUnwritten result → BeginsClaim (IsNeverFormula (A.remaining text))
+        claims.Never (W.contents out.old) (W.contents out.new) }
     ensures never { (said : List ℕ) → A.remaining text ≡ Some said
         → result ≡ Ok Verified → IsNeverText said }
 {
@@ -52,9 +57,9 @@ pub fn run_never<R: Log, A: Read + Drop, P: Read + Drop, W: Write>(
         Ok(formula) => formula,
         Err(fault) => return Err(fault),
     };
-    let verdict = match judge(rt, alloc, &formula, proof, format) {
+    let verdict = match check_proof(rt, alloc, &formula, proof, format) {
         Ok(verdict) => verdict,
-        Err(fault) => return Err(fault),
+        Err(fault) => return Err(CircuitFault::Proof(fault)),
     };
     write_verdict(out, Claim::Never, verdict)
 }
@@ -77,9 +82,14 @@ pub fn run_same<R: Log, A: Read + Drop, B: Read + Drop, P: Read + Drop, W: Write
     format: ProofFormat,
     out: &mut W,
 ) -> Result<Verdict, CircuitFault>
+    ensures run { IsClaimRun (IsSameFormula (A.remaining text) (B.remaining other))
+        (FailsSame (A.remaining text) (B.remaining other)) result }
     ensures line { IfOk result (λ verdict.
         Appends (W.contents out.old) (W.contents out.new) (claim_line claims.Same verdict)) }
     ensures silent { IsSilent result → out.new ≡ out.old }
+    ensures unwritten { IsUnwritten result
+        → BeginsClaim (IsSameFormula (A.remaining text) (B.remaining other))
+        claims.Same (W.contents out.old) (W.contents out.new) }
     ensures same { (said other_said : List ℕ) → A.remaining text ≡ Some said
         → B.remaining other ≡ Some other_said → result ≡ Ok Verified
         → IsSameText said other_said }
@@ -88,9 +98,9 @@ pub fn run_same<R: Log, A: Read + Drop, B: Read + Drop, P: Read + Drop, W: Write
         Ok(formula) => formula,
         Err(fault) => return Err(fault),
     };
-    let verdict = match judge(rt, alloc, &formula, proof, format) {
+    let verdict = match check_proof(rt, alloc, &formula, proof, format) {
         Ok(verdict) => verdict,
-        Err(fault) => return Err(fault),
+        Err(fault) => return Err(CircuitFault::Proof(fault)),
     };
     write_verdict(out, Claim::Same, verdict)
 }
@@ -150,23 +160,6 @@ pub(crate) fn write_text<W: Write>(
     }
 }
 
-/// What a proof shows of a formula.
-fn judge<R: Log, P: Read + Drop>(
-    rt: &R,
-    alloc: Global,
-    formula: &CnfFormula,
-    proof: P,
-    format: ProofFormat,
-) -> Result<Verdict, CircuitFault>
-    ensures refutes { result ≡ Ok Verified → IsRefuted formula.now }
-    ensures early { IfErr result (λ fault. IsSilent (Err fault)) }
-{
-    match check_proof(rt, alloc, formula, proof, format) {
-        Ok(verdict) => Ok(verdict),
-        Err(fault) => Err(CircuitFault::Proof(fault)),
-    }
-}
-
 /// Checks a proof of a formula, and writes nothing.
 pub(crate) fn check_proof<R: Log, P: Read + Drop>(
     rt: &R,
@@ -205,6 +198,8 @@ pub(crate) fn write_verdict<W: Write>(
         Appends (W.contents out.old) (W.contents out.new) (claim_line claim verdict)) }
     ensures same { IfOk result (λ written. written ≡ verdict) }
     ensures written { IsWritten result }
+    ensures unwritten { IsUnwritten result → AppendsBeginning (W.contents out.old)
+        (W.contents out.new) (claim_line claim verdict) }
 {
     match write_whole(out, claim.line(verdict)) {
         Ok(()) => Ok(verdict),

@@ -1,8 +1,8 @@
 //! Runs of a machine and an invariant: three proofs are checked, and the verdict is written.
-ghost use Rattle.std.specs.Prelude.{◌≡◌, ℕ, List, IfErr, IfOk, OnOk, Err, Ok, Some};
+ghost use Rattle.std.specs.Prelude.{◌≡◌, ℕ, List, IfErr, IfOk, OnOk, Ok, Some};
 ghost use Rattle.std.specs.Io.KnownBytes.{Appends};
 ghost use Rattle.circuit_check.specs.Claims.{HaveWritten, IsAppended, IsSafeText, RefutesAll};
-ghost use Rattle.circuit_check.specs.Runs.{IsSilent};
+ghost use Rattle.circuit_check.specs.Runs.{BeginsSafe, IsFaultOf, IsPartFault, IsSafeRun, IsSilent, IsUnwritten, proof_fault};
 ghost use Rattle.circuit_check.specs.Verdicts.{claim_line};
 ghost use Rattle.circuit_check.specs.declared.line.Claim.TheVariants as claims;
 ghost use Rattle.circuit_clauses.specs.Machines.{part_clauses};
@@ -14,7 +14,7 @@ use crate::formulas::read_safe;
 use crate::line::Claim;
 use crate::run::{check_proof, write_text, write_verdict};
 use circuit_clauses::{Induction, Part};
-use drat_check::{ProofFormat, Verdict};
+use drat_check::{ProofFormat, RunFault, Verdict};
 use log::Log;
 use std::alloc::Global;
 use std::io::{Read, Write};
@@ -43,7 +43,8 @@ pub struct PartProofs<P: Drop> {
 ///
 /// `Unread` and `OtherUnread` if the machine or the invariant can't be read, `NoFormula` if their
 /// shapes do not fit, `InitialProof`, `StepProof` and `BadProof` if that proof is rejected or can't
-/// be read. `Write` if the line could not be written whole.
+/// be read; nothing is written then. `Write` if the line of a verdict that was reached could not be
+/// written whole: a beginning of it is.
 pub fn run_safe<R: Log, A: Read + Drop, B: Read + Drop, P: Read + Drop, W: Write>(
     rt: &R,
     alloc: Global,
@@ -53,9 +54,12 @@ pub fn run_safe<R: Log, A: Read + Drop, B: Read + Drop, P: Read + Drop, W: Write
     format: ProofFormat,
     out: &mut W,
 ) -> Result<Verdict, CircuitFault>
+    ensures run { IsSafeRun (A.remaining machine) (B.remaining invariant) result }
     ensures line { IfOk result (λ verdict.
         Appends (W.contents out.old) (W.contents out.new) (claim_line claims.Safe verdict)) }
     ensures silent { IsSilent result → out.new ≡ out.old }
+    ensures unwritten { IsUnwritten result → BeginsSafe (A.remaining machine)
+        (B.remaining invariant) (W.contents out.old) (W.contents out.new) }
     ensures safe { (said : List ℕ) → A.remaining machine ≡ Some said
         → result ≡ Ok Verified → IsSafeText said }
 {
@@ -124,7 +128,7 @@ fn judge_parts<R: Log, P: Read + Drop>(
     format: ProofFormat,
 ) -> Result<Verdict, CircuitFault>
     ensures refutes { result ≡ Ok Verified → RefutesAll induction.now }
-    ensures early { IfErr result (λ fault. IsSilent (Err fault)) }
+    ensures fault { IfErr result IsPartFault }
 {
     let PartProofs { initial, step, bad } = proofs;
     let initial = judge_part(rt, alloc, induction, Part::Initial, initial, format)?;
@@ -146,7 +150,7 @@ fn judge_part<R: Log, P: Read + Drop>(
     format: ProofFormat,
 ) -> Result<Verdict, CircuitFault>
     ensures refutes { result ≡ Ok Verified → IsRefuted (part_clauses induction.now part) }
-    ensures early { IfErr result (λ fault. IsSilent (Err fault)) }
+    ensures fault { IfErr result (IsFaultOf part) }
 {
     let formula = match induction.formula(alloc, part) {
         Ok(formula) => formula,
@@ -154,10 +158,17 @@ fn judge_part<R: Log, P: Read + Drop>(
     };
     match check_proof(rt, alloc, &formula, proof, format) {
         Ok(verdict) => Ok(verdict),
-        Err(fault) => Err(match part {
-            Part::Initial => CircuitFault::InitialProof(fault),
-            Part::Step => CircuitFault::StepProof(fault),
-            Part::Bad => CircuitFault::BadProof(fault),
-        }),
+        Err(fault) => Err(proof_fault(part, fault)),
+    }
+}
+
+/// Returns the fault of a run of the proof of a part.
+fn proof_fault(part: Part, fault: RunFault) -> CircuitFault
+    ensures { result ≡ proof_fault part fault }
+{
+    match part {
+        Part::Initial => CircuitFault::InitialProof(fault),
+        Part::Step => CircuitFault::StepProof(fault),
+        Part::Bad => CircuitFault::BadProof(fault),
     }
 }

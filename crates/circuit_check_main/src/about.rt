@@ -3,8 +3,8 @@ use command::{About, EXAMPLE, Entry};
 
 /// What `--help` says.
 pub const ABOUT: About<'static> = About {
-    call: "circuit_check CLAIM CIRCUIT [OTHER] [--proof PROOF] [--formula FILE] [--init-proof PROOF] [--step-proof PROOF] [--bad-proof PROOF] [--init-formula FILE] [--step-formula FILE] [--bad-formula FILE]",
-    does: "Check a proof that a circuit is never true, or that two circuits are the same, or proofs that a machine is safe, and print the verdict.",
+    call: "circuit_check CLAIM CIRCUIT [OTHER] [--proof PROOF] [--answer ANSWER] [--formula FILE] [--names] [--init-proof PROOF] [--step-proof PROOF] [--bad-proof PROOF] [--init-formula FILE] [--step-formula FILE] [--bad-formula FILE]",
+    does: "Check a proof that a circuit is never true, or that two circuits are the same, or a solver's answer that this is false, or proofs that a machine is safe, and print the verdict.",
     operands: &[
         Entry {
             name: "CLAIM",
@@ -25,8 +25,16 @@ pub const ABOUT: About<'static> = About {
             text: "a proof for the formula of --formula: DRAT, DPR or FRAT, text or binary",
         },
         Entry {
+            name: "--answer ANSWER",
+            text: "of never and same: a solver's answer that the formula of --formula is satisfiable; the circuits are simulated for the input that it lists",
+        },
+        Entry {
             name: "--formula FILE",
             text: "write the formula for a solver, and check nothing",
+        },
+        Entry {
+            name: "--names",
+            text: "of same: refuse circuits that give different names to an input or output (without it: a warning)",
         },
         Entry {
             name: "--init-proof PROOF",
@@ -54,8 +62,8 @@ pub const ABOUT: About<'static> = About {
         },
         EXAMPLE,
     ],
-    verified: "s VERIFIED NEVER, s VERIFIED SAME, or s VERIFIED SAFE: the claim holds; or the formulas are written",
-    open: "s NOT VERIFIED: a proof ends before it shows the claim",
+    verified: "s VERIFIED NEVER, s VERIFIED SAME, or s VERIFIED SAFE: the claim holds; s VERIFIED POSSIBLE or s VERIFIED DIFFERENT: the claim fails for the input of the line that begins with i, and each line that begins with o has the outputs of a circuit for it; or the formulas are written",
+    open: "s NOT VERIFIED: a proof ends before it shows the claim, or the claim holds for the input of the answer",
     environment: &[],
     examples: &[
         Entry {
@@ -65,6 +73,10 @@ pub const ABOUT: About<'static> = About {
         Entry {
             name: "circuit_check same before.aig after.aig --proof same.drat",
             text: "check a proof that a solver wrote for it",
+        },
+        Entry {
+            name: "circuit_check never circuit.aig --answer circuit.answer",
+            text: "check a solver's answer that an output can be true",
         },
         Entry {
             name: "circuit_check safe machine.aig invariant.aig --init-proof init.drat --step-proof step.drat --bad-proof bad.drat",

@@ -1,6 +1,8 @@
-//! Circuits and proofs, in files.
+//! Circuits, proofs and answers, in files.
+use crate::names::{NameRule, read_named};
 use circuit_check::{
-    CircuitFault, ProofFormat, exit_status, run_never, run_same, write_never, write_same,
+    ProofFormat, exit_status, run_different, run_never, run_possible, run_same, write_never,
+    write_same,
 };
 use command::{FAILED, Input, NOT_RUN, WrittenFiles, open_file, say_cause};
 use log::sink::Discard;
@@ -12,7 +14,8 @@ use std::io::{BufWriter, Write};
 #[derive(Clone, Copy)]
 pub(crate) enum Circuits<'a> {
     Never(&'a str),
-    Same(&'a str, &'a str),
+    /// And what is done if names differ.
+    Same(&'a str, &'a str, NameRule),
 }
 
 /// Checks a proof, and returns the exit status. An Err is that of a file that can't be opened.
@@ -25,10 +28,36 @@ pub(crate) fn check_files(rt: &HostRuntime, circuits: Circuits<'_>, proof: &str)
             let circuit = open(rt, circuit)?.file;
             run_never(&Discard, alloc, circuit, proof, format, out)
         }
-        Circuits::Same(circuit, other) => {
-            let circuit = open(rt, circuit)?.file;
-            let other = open(rt, other)?.file;
+        Circuits::Same(circuit, other, rule) => {
+            let (circuit, other) = (open(rt, circuit)?, open(rt, other)?);
+            let (circuit, other) = read_named(rt, circuit, other, rule)?;
+            let (circuit, other) = (circuit.as_slice(), other.as_slice());
             run_same(&Discard, alloc, circuit, other, proof, format, out)
+        }
+    };
+    say_cause(rt, &outcome);
+    Ok(exit_status(&outcome))
+}
+
+/// Checks an answer, and returns the exit status. An Err is that of a file that can't be opened.
+pub(crate) fn check_answer(
+    rt: &HostRuntime,
+    circuits: Circuits<'_>,
+    answer: &str,
+) -> Result<u8, u8> {
+    let alloc = rt.alloc();
+    let answer = open(rt, answer)?.file;
+    let out = &mut io::writer(rt);
+    let outcome = match circuits {
+        Circuits::Never(circuit) => {
+            let circuit = open(rt, circuit)?.file;
+            run_possible(alloc, circuit, answer, out)
+        }
+        Circuits::Same(circuit, other, rule) => {
+            let (circuit, other) = (open(rt, circuit)?, open(rt, other)?);
+            let (circuit, other) = read_named(rt, circuit, other, rule)?;
+            let (circuit, other) = (circuit.as_slice(), other.as_slice());
+            run_different(alloc, circuit, other, answer, out)
         }
     };
     say_cause(rt, &outcome);
@@ -50,10 +79,12 @@ pub(crate) fn write_files<'a>(
             let mut out = create(&mut files, formula, &[&circuit])?;
             (write_never(alloc, circuit.file, &mut out), out)
         }
-        Circuits::Same(circuit, other) => {
+        Circuits::Same(circuit, other, rule) => {
             let (circuit, other) = (open(rt, circuit)?, open(rt, other)?);
             let mut out = create(&mut files, formula, &[&circuit, &other])?;
-            (write_same(alloc, circuit.file, other.file, &mut out), out)
+            let (circuit, other) = read_named(rt, circuit, other, rule)?;
+            let (circuit, other) = (circuit.as_slice(), other.as_slice());
+            (write_same(alloc, circuit, other, &mut out), out)
         }
     };
     let flushed = out.flush();

@@ -1,7 +1,9 @@
 //! The command `circuit_check never CIRCUIT` and `circuit_check same CIRCUIT OTHER`, with
-//! `--proof PROOF` or `--formula FILE`: checks a proof that a circuit is never true, or that two
-//! circuits are the same, and says it in one line; or writes the formula that a solver is to
-//! refute. The command `circuit_check safe MACHINE INVARIANT` does the same for a machine that an
+//! `--proof PROOF`, `--answer ANSWER` or `--formula FILE`: checks a proof that a circuit is never
+//! true, or that two circuits are the same, and says it in one line; checks an answer that this is
+//! false, and says it with the input and the outputs; or writes the formula that a solver is to
+//! refute. If an input or output has different names in two circuits, it warns, or with `--names`
+//! refuses. The command `circuit_check safe MACHINE INVARIANT` does the same for a machine that an
 //! invariant shows to be safe, with three proofs and three formulas.
 //!
 //! `--example` checks a small fixed example, `--help` says how the program is called, and
@@ -12,11 +14,13 @@ mod about;
 mod example;
 mod files;
 mod machines;
+mod names;
 
 use crate::about::ABOUT;
 use crate::example::check_example;
-use crate::files::{Circuits, check_files, write_files};
+use crate::files::{Circuits, check_answer, check_files, write_files};
 use crate::machines::{MachineNames, PartNames, check_machine, write_machine};
+use crate::names::NameRule;
 use command::{Call, misused, run_program};
 use std::process::ExitCode;
 
@@ -29,11 +33,15 @@ fn run(rt: &HostRuntime, call: &Call<'_>) -> Result<u8, u8> {
         return Ok(check_example(rt));
     }
     match call.operands.as_slice() {
+        [claim, ..] if call.has("--names") && claim.as_str() != "same" => {
+            Err(misused(rt, &ABOUT, "--names is of same"))
+        }
         [claim, circuit] if claim.as_str() == "never" => {
             run_circuits(rt, call, Circuits::Never(circuit.as_str()))
         }
         [claim, circuit, other] if claim.as_str() == "same" => {
-            run_circuits(rt, call, Circuits::Same(circuit.as_str(), other.as_str()))
+            let (circuit, other) = (circuit.as_str(), other.as_str());
+            run_circuits(rt, call, Circuits::Same(circuit, other, rule_of(call)))
         }
         [claim, machine, invariant] if claim.as_str() == "safe" => {
             let (machine, invariant) = (machine.as_str(), invariant.as_str());
@@ -47,6 +55,21 @@ fn run(rt: &HostRuntime, call: &Call<'_>) -> Result<u8, u8> {
     }
 }
 
+/// What is done if names differ.
+fn rule_of(call: &Call<'_>) -> NameRule {
+    if call.has("--names") {
+        NameRule::Refuse
+    } else {
+        NameRule::Warn
+    }
+}
+
+/// What `never` and `same` need.
+const ONE_OF: &str = "one of --proof, --answer and --formula";
+
+/// The options of `never` and `same`.
+const OPTIONS: [&str; 3] = ["--proof", "--answer", "--formula"];
+
 /// The options of `safe`.
 const PARTS: [&str; 6] = [
     "--init-proof",
@@ -59,17 +82,22 @@ const PARTS: [&str; 6] = [
 
 fn run_circuits(rt: &HostRuntime, call: &Call<'_>, circuits: Circuits<'_>) -> Result<u8, u8> {
     if parts_in(call) > 0 {
-        return Err(misused(rt, &ABOUT, "one of --proof and --formula"));
+        return Err(misused(rt, &ABOUT, ONE_OF));
     }
-    match (call.value("--proof"), call.value("--formula")) {
-        (Some(proof), None) => check_files(rt, circuits, proof),
-        (None, Some(formula)) => write_files(rt, circuits, formula),
-        _ => Err(misused(rt, &ABOUT, "one of --proof and --formula")),
+    match (
+        call.value("--proof"),
+        call.value("--answer"),
+        call.value("--formula"),
+    ) {
+        (Some(proof), None, None) => check_files(rt, circuits, proof),
+        (None, Some(answer), None) => check_answer(rt, circuits, answer),
+        (None, None, Some(formula)) => write_files(rt, circuits, formula),
+        _ => Err(misused(rt, &ABOUT, ONE_OF)),
     }
 }
 
 fn run_machine(rt: &HostRuntime, call: &Call<'_>, names: MachineNames<'_>) -> Result<u8, u8> {
-    let is_mixed = call.has("--proof") || call.has("--formula") || parts_in(call) != 3;
+    let is_mixed = OPTIONS.iter().any(|flag| call.has(flag)) || parts_in(call) != 3;
     let proofs = parts(call, "--init-proof", "--step-proof", "--bad-proof");
     let formulas = parts(call, "--init-formula", "--step-formula", "--bad-formula");
     match (proofs, formulas) {

@@ -1,13 +1,23 @@
-use Rattle.std.proofs.Common.{rules}
+use Rattle.circuit_check.proofs.FaultLemmas.{same_fails}
 use Rattle.circuit_check.proofs.formulas.read_same.Goals as goal
+
+pub returns-in-Err-clause-fault : goal.returns-in-Err-clause-fault
+returns-in-Err-clause-fault g c = same_fails _ _ _ c.in-Err.ensures.fault
 
 pub returns-in-Ok-same_formula-clause-formula : goal.returns-in-Ok-same_formula-clause-formula
 returns-in-Ok-same_formula-clause-formula g c = record {
-  circuit = c.in-Ok.circuit;
-  circuit' = c.in-Ok-read_circuit.circuit;
-  says = c.in-Ok.ensures.reads;
-  says' = c.in-Ok-read_circuit.ensures.reads;
-  shape = search rules;
-  shape' = search rules;
+  circuit = c.in-Ok.circuits.0;
+  circuit' = c.in-Ok.circuits.1;
+  says = c.in-Ok.ensures.first.says;
+  says' = c.in-Ok.ensures.second.says;
+  shape = c.in-Ok.ensures.first.shape;
+  shape' = c.in-Ok.ensures.second.shape;
   has = c.in-Ok-same_formula.ensures;
+}
+
+pub returns-clause-fault : goal.returns-clause-fault
+returns-clause-fault g c = record {
+  circuit = c.in-Ok.circuits.0;
+  gates = c.in-Ok.ensures.first;
+  holds = record { circuit = c.in-Ok.circuits.1; gates = c.in-Ok.ensures.second; holds = tt };
 }

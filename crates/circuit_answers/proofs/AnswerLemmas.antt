@@ -1,0 +1,68 @@
+-- What the outputs of a simulation say, and why there is no verdict.
+use Rattle.std.proofs.Common.{◌≡◌, ℕ, Bool, true, false, List, [], ◌∷◌, ◌||◌, map, refl, ap, sym, ◌∙◌}
+use mathlib.Core.Bool.{beq}
+use Rattle.std.specs.Bool.{Decides}
+use Rattle.std.proofs.lemmas.Bool.{false≢true}
+use Rattle.sat_rules.specs.Clauses.{lit_true}
+use Rattle.circuit_rules.specs.Circuits.{simulated}
+use Rattle.circuit_rules.specs.Checks.{any_output}
+use Rattle.circuit_text.specs.declared.circuit.Circuit as read
+use Rattle.circuit_clauses.specs.Formulas.{gates_in}
+use Rattle.verdicts.specs.declared.verdict.Verdict.{Verdict}
+use Rattle.verdicts.specs.declared.verdict.Verdict.TheVariants.{Verified, NotVerified}
+use Rattle.circuit_answers.specs.Answers.{AreDifferent, HaveShapes, IsDifferentJudged, IsPossible, IsPossibleJudged, is_any}
+use Rattle.circuit_answers.specs.Lines.{different_text, possible_text}
+use Rattle.circuit_answers.specs.Simulations.{assigned, input_by, outputs_for}
+
+-- two values are the same
+pub values_decides : (x y : Bool) → Decides (beq x y) (x ≡ y)
+values_decides true true = (λ e. refl, λ e. refl)
+values_decides true false = (λ e. sym e, λ e. sym e)
+values_decides false true = (λ e. e, λ e. e)
+values_decides false false = (λ e. refl, λ e. refl)
+
+-- some output is true
+is_any-map : (a : ℕ → Bool) (os : List ℕ) → is_any (map (lit_true a) os) ≡ any_output a os
+is_any-map a [] = refl
+is_any-map a (o ∷ os) = ap (λ b. lit_true a o || b) (is_any-map a os)
+
+pub possible_shown : (listed : ℕ → Bool) (c : read.Circuit) (v : Verdict) (text : List ℕ) → IsPossibleJudged listed c v text → v ≡ Verified →
+    IsPossible (gates_in c) c.outputs.items
+possible_shown listed c Verified text h e = record {
+  input = assigned (input_by listed c.inputs);
+  any = sym (is_any-map (simulated (assigned (input_by listed c.inputs)) (gates_in c)) c.outputs.items) ∙ h.0;
+}
+possible_shown listed c NotVerified text h e = absurd cc
+
+pub different_shown : (listed : ℕ → Bool) (c c' : read.Circuit) (v : Verdict) (text : List ℕ) → IsDifferentJudged listed c c' v text → v ≡ Verified →
+    AreDifferent (gates_in c) c.outputs.items (gates_in c') c'.outputs.items
+different_shown listed c c' Verified text h e = record {
+  input = assigned (input_by listed c.inputs);
+  differ = h.judged.0;
+}
+different_shown listed c c' NotVerified text h e = absurd cc
+
+-- ---- what was computed, as the definitions say it
+
+module _ (listed : ℕ → Bool) (c : read.Circuit) (input outputs : List Bool) (e : input ≡ input_by listed c.inputs) (is : outputs ≡ outputs_for input c) where
+  outputs_are : outputs ≡ outputs_for (input_by listed c.inputs) c
+  outputs_are = is ∙ ap (λ i. outputs_for i c) e
+
+  pub possible_judged : (text : List ℕ) → is_any outputs ≡ true → text ≡ possible_text input outputs → IsPossibleJudged listed c Verified text
+  possible_judged text any t =
+      (sym (ap is_any outputs_are) ∙ any, t ∙ ap (λ i. possible_text i outputs) e ∙ ap (possible_text (input_by listed c.inputs)) outputs_are)
+
+  module _ (c' : read.Circuit) (others : List Bool) (other : others ≡ outputs_for input c') where
+    others_are : others ≡ outputs_for (input_by listed c.inputs) c'
+    others_are = other ∙ ap (λ i. outputs_for i c') e
+
+    pub different_judged : (text : List ℕ) (same : Bool) → HaveShapes c c' → (outputs ≡ others → same ≡ true) → same ≡ false → text ≡ different_text input outputs others →
+        IsDifferentJudged listed c c' Verified text
+    different_judged text same shapes if_same apart t = record {
+      shapes = shapes;
+      judged = (
+        λ equal. false≢true (sym apart ∙ if_same (outputs_are ∙ equal ∙ sym others_are)),
+        t ∙ ap (λ i. different_text i outputs others) e ∙ ap (λ os. different_text (input_by listed c.inputs) os others) outputs_are
+            ∙ ap (different_text (input_by listed c.inputs) (outputs_for (input_by listed c.inputs) c)) others_are,
+      );
+    }

@@ -1,0 +1,164 @@
+-- Faults that a run hands on, and what stands after the verdict on a proof.
+use Rattle.std.proofs.Common.{◌≡◌, inl, inr, ℕ, List, Option, Result, Ok, Err, refl, sym, subst}
+use Rattle.std.specs.Prelude.{IfOk}
+use Rattle.cube_rules.specs.Cubes.{IsRefuted}
+use Rattle.circuit_clauses.specs.declared.induction.Induction.{Induction}
+use Rattle.circuit_clauses.specs.declared.induction.Part.{Part}
+use Rattle.circuit_clauses.specs.declared.induction.Part.TheVariants as parts
+use Rattle.drat_check.specs.declared.fault.RunFault.{RunFault}
+use Rattle.verdicts.specs.declared.verdict.Verdict.{Verdict}
+use Rattle.verdicts.specs.declared.verdict.Verdict.TheVariants.{Verified, NotVerified}
+use Rattle.circuit_check.specs.Claims.{IsInductionText, IsNeverFormula, IsSameFormula, RefutesAll}
+use Rattle.circuit_check.specs.Reads.{FailsBoth, FailsGates, FailsNever, FailsRead, FailsSafe, FailsSame}
+use Rattle.circuit_check.specs.Runs.{FailsClaim, FailsInduction, IsClaimRun, IsPartFault, IsSafeRun, IsShown, IsUnwritten, IsWritten, ShowsAll, proof_fault}
+use Rattle.circuit_check.specs.declared.fault.CircuitFault.{CircuitFault}
+use Rattle.circuit_check.specs.declared.fault.CircuitFault.TheVariants.{Unread, OtherUnread, Sequential, NoFormula, Answer, Proof, InitialProof, StepProof, BadProof, Formula, Write}
+
+pub both_fail : (known known' : Option (List ℕ)) (fault : CircuitFault) → FailsRead known known' fault → FailsBoth known known' fault
+both_fail known known' (Unread f) h = h
+both_fail known known' (OtherUnread f) h = h
+both_fail known known' Sequential h = absurd h
+both_fail known known' (NoFormula f) h = absurd h
+both_fail known known' (Answer f) h = absurd h
+both_fail known known' (Proof f) h = absurd h
+both_fail known known' (InitialProof f) h = absurd h
+both_fail known known' (StepProof f) h = absurd h
+both_fail known known' (BadProof f) h = absurd h
+both_fail known known' (Formula f) h = absurd h
+both_fail known known' (Write f) h = absurd h
+
+pub never_fails : (known : Option (List ℕ)) (fault : CircuitFault) → FailsGates known fault → FailsNever known fault
+never_fails known (Unread f) h = h
+never_fails known (OtherUnread f) h = absurd h
+never_fails known Sequential h = h
+never_fails known (NoFormula f) h = absurd h
+never_fails known (Answer f) h = absurd h
+never_fails known (Proof f) h = absurd h
+never_fails known (InitialProof f) h = absurd h
+never_fails known (StepProof f) h = absurd h
+never_fails known (BadProof f) h = absurd h
+never_fails known (Formula f) h = absurd h
+never_fails known (Write f) h = absurd h
+
+pub same_fails : (known known' : Option (List ℕ)) (fault : CircuitFault) → FailsBoth known known' fault → FailsSame known known' fault
+same_fails known known' (Unread f) h = h
+same_fails known known' (OtherUnread f) h = h
+same_fails known known' Sequential h = h
+same_fails known known' (NoFormula f) h = absurd h
+same_fails known known' (Answer f) h = absurd h
+same_fails known known' (Proof f) h = absurd h
+same_fails known known' (InitialProof f) h = absurd h
+same_fails known known' (StepProof f) h = absurd h
+same_fails known known' (BadProof f) h = absurd h
+same_fails known known' (Formula f) h = absurd h
+same_fails known known' (Write f) h = absurd h
+
+pub safe_fails : (known known' : Option (List ℕ)) (fault : CircuitFault) → FailsRead known known' fault → FailsSafe known known' fault
+safe_fails known known' (Unread f) h = h
+safe_fails known known' (OtherUnread f) h = h
+safe_fails known known' Sequential h = absurd h
+safe_fails known known' (NoFormula f) h = absurd h
+safe_fails known known' (Answer f) h = absurd h
+safe_fails known known' (Proof f) h = absurd h
+safe_fails known known' (InitialProof f) h = absurd h
+safe_fails known known' (StepProof f) h = absurd h
+safe_fails known known' (BadProof f) h = absurd h
+safe_fails known known' (Formula f) h = absurd h
+safe_fails known known' (Write f) h = absurd h
+
+-- ---- runs
+
+pub never_run : (known : Option (List ℕ)) (fault : CircuitFault) → FailsNever known fault → FailsClaim (IsNeverFormula known) (FailsNever known) fault × (IsUnwritten (Err fault) → ⊥)
+never_run known (Unread f) h = (h, λ u. u)
+never_run known (OtherUnread f) h = absurd h
+never_run known Sequential h = (h, λ u. u)
+never_run known (NoFormula f) h = (h, λ u. u)
+never_run known (Answer f) h = absurd h
+never_run known (Proof f) h = absurd h
+never_run known (InitialProof f) h = absurd h
+never_run known (StepProof f) h = absurd h
+never_run known (BadProof f) h = absurd h
+never_run known (Formula f) h = absurd h
+never_run known (Write f) h = absurd h
+
+pub same_run : (known known' : Option (List ℕ)) (fault : CircuitFault) → FailsSame known known' fault →
+    FailsClaim (IsSameFormula known known') (FailsSame known known') fault × (IsUnwritten (Err fault) → ⊥)
+same_run known known' (Unread f) h = (h, λ u. u)
+same_run known known' (OtherUnread f) h = (h, λ u. u)
+same_run known known' Sequential h = (h, λ u. u)
+same_run known known' (NoFormula f) h = (h, λ u. u)
+same_run known known' (Answer f) h = absurd h
+same_run known known' (Proof f) h = absurd h
+same_run known known' (InitialProof f) h = absurd h
+same_run known known' (StepProof f) h = absurd h
+same_run known known' (BadProof f) h = absurd h
+same_run known known' (Formula f) h = absurd h
+same_run known known' (Write f) h = absurd h
+
+pub safe_run : (known known' : Option (List ℕ)) (fault : CircuitFault) → FailsSafe known known' fault → FailsInduction known known' fault × (IsUnwritten (Err fault) → ⊥)
+safe_run known known' (Unread f) h = (h, λ u. u)
+safe_run known known' (OtherUnread f) h = (h, λ u. u)
+safe_run known known' Sequential h = absurd h
+safe_run known known' (NoFormula f) h = (h, λ u. u)
+safe_run known known' (Answer f) h = absurd h
+safe_run known known' (Proof f) h = absurd h
+safe_run known known' (InitialProof f) h = absurd h
+safe_run known known' (StepProof f) h = absurd h
+safe_run known known' (BadProof f) h = absurd h
+safe_run known known' (Formula f) h = absurd h
+safe_run known known' (Write f) h = absurd h
+
+-- a fault of a part, once there is an induction
+part_fails : (known known' : Option (List ℕ)) (i : Induction) (part : Part) (run : RunFault) → IsInductionText known known' i →
+    FailsInduction known known' (proof_fault part run) × (IsUnwritten (Err (proof_fault part run)) → ⊥)
+part_fails known known' i parts.Initial run h = ((i, h), λ u. u)
+part_fails known known' i parts.Step run h = ((i, h), λ u. u)
+part_fails known known' i parts.Bad run h = ((i, h), λ u. u)
+
+pub parts_fail : (known known' : Option (List ℕ)) (i : Induction) (fault : CircuitFault) → IsInductionText known known' i → IsPartFault fault →
+    FailsInduction known known' fault × (IsUnwritten (Err fault) → ⊥)
+parts_fail known known' i fault h (part, inl (run, e)) =
+    subst (λ (f : CircuitFault). FailsInduction known known' f × (IsUnwritten (Err f) → ⊥)) (sym e) (part_fails known known' i part run h)
+parts_fail known known' i fault h (part, inr (clauses, e)) =
+    subst (λ (f : CircuitFault). FailsInduction known known' f × (IsUnwritten (Err f) → ⊥)) (sym e)
+    (((h.circuit, h.says), (h.circuit', h.says')), λ u. u)
+
+-- ---- verdicts
+
+pub shown_by : (formula : List (List ℕ)) (v : Verdict) → (v ≡ Verified → IsRefuted formula) → IsShown formula v
+shown_by formula Verified h = h refl
+shown_by formula NotVerified h = tt
+
+pub all_by : (i : Induction) (v : Verdict) → (v ≡ Verified → RefutesAll i) → ShowsAll i v
+all_by i Verified h = h refl
+all_by i NotVerified h = tt
+
+pub claim_written : (IsFormula : List (List ℕ) → Type 0) (Fails : CircuitFault → Type 0) (formula : List (List ℕ)) (v : Verdict) (r : Result Verdict CircuitFault) →
+    IsFormula formula → IsShown formula v → IfOk r (λ w. w ≡ v) → IsWritten r → IsClaimRun IsFormula Fails r
+claim_written IsFormula Fails formula v (Ok w) is shown same written = (formula, is, subst (IsShown formula) (sym same) shown)
+claim_written IsFormula Fails formula v (Err (Unread f)) is shown same written = absurd written
+claim_written IsFormula Fails formula v (Err (OtherUnread f)) is shown same written = absurd written
+claim_written IsFormula Fails formula v (Err Sequential) is shown same written = absurd written
+claim_written IsFormula Fails formula v (Err (NoFormula f)) is shown same written = absurd written
+claim_written IsFormula Fails formula v (Err (Answer f)) is shown same written = absurd written
+claim_written IsFormula Fails formula v (Err (Proof f)) is shown same written = absurd written
+claim_written IsFormula Fails formula v (Err (InitialProof f)) is shown same written = absurd written
+claim_written IsFormula Fails formula v (Err (StepProof f)) is shown same written = absurd written
+claim_written IsFormula Fails formula v (Err (BadProof f)) is shown same written = absurd written
+claim_written IsFormula Fails formula v (Err (Formula f)) is shown same written = absurd written
+claim_written IsFormula Fails formula v (Err (Write f)) is shown same written = (formula, is)
+
+pub safe_written : (known known' : Option (List ℕ)) (i : Induction) (v : Verdict) (r : Result Verdict CircuitFault) →
+    IsInductionText known known' i → ShowsAll i v → IfOk r (λ w. w ≡ v) → IsWritten r → IsSafeRun known known' r
+safe_written known known' i v (Ok w) is shown same written = (i, is, subst (ShowsAll i) (sym same) shown)
+safe_written known known' i v (Err (Unread f)) is shown same written = absurd written
+safe_written known known' i v (Err (OtherUnread f)) is shown same written = absurd written
+safe_written known known' i v (Err Sequential) is shown same written = absurd written
+safe_written known known' i v (Err (NoFormula f)) is shown same written = absurd written
+safe_written known known' i v (Err (Answer f)) is shown same written = absurd written
+safe_written known known' i v (Err (Proof f)) is shown same written = absurd written
+safe_written known known' i v (Err (InitialProof f)) is shown same written = absurd written
+safe_written known known' i v (Err (StepProof f)) is shown same written = absurd written
+safe_written known known' i v (Err (BadProof f)) is shown same written = absurd written
+safe_written known known' i v (Err (Formula f)) is shown same written = absurd written
+safe_written known known' i v (Err (Write f)) is shown same written = (i, is)

@@ -1,0 +1,67 @@
+-- Circuits that are read, and why they are not.
+--     IsGates known c      the text says this circuit, which has gates and outputs alone
+--     OfGates known P      this holds of that circuit
+--     FailsGates, FailsRead, FailsBoth      why one circuit, two machines, two circuits are not read
+--     FailsNever, FailsSame, FailsSafe      why no formula is made of them
+use Rattle.std.specs.Prelude.{◌⊎◌, ℕ, List, Option}
+use Rattle.circuit_text.specs.declared.circuit.Circuit as read
+use Rattle.circuit_text.specs.Circuits.{circuit_of}
+use Rattle.circuit_text.specs.Reading.{FailsBy, IsRead}
+use Rattle.circuit_check.specs.Claims.{IsCombinational}
+use Rattle.circuit_check.specs.declared.fault.CircuitFault.{CircuitFault}
+use Rattle.circuit_check.specs.declared.fault.CircuitFault.TheVariants.{Unread, OtherUnread, Sequential, NoFormula}
+
+-- the text says this circuit, which has gates and outputs alone
+pub record IsGates (known : Option (List ℕ)) (c : read.Circuit) : Type 0 where
+  pub says : IsRead known c
+  pub shape : IsCombinational (circuit_of c)
+
+-- the text says a circuit with latches, bad outputs or constraints
+pub record IsSequential (known : Option (List ℕ)) : Type 0 where
+  pub circuit : read.Circuit
+  pub says : IsRead known circuit
+  pub shape : IsCombinational (circuit_of circuit) → ⊥
+
+-- this holds of the circuit that the text says, which has gates and outputs alone
+pub record OfGates (known : Option (List ℕ)) (P : read.Circuit → Type 0) : Type 0 where
+  pub circuit : read.Circuit
+  pub gates : IsGates known circuit
+  pub holds : P circuit
+
+-- the text says a circuit
+abbrev pub IsReadable : Option (List ℕ) → Type 0
+IsReadable known = (c : read.Circuit) × IsRead known c
+
+-- why no circuit of gates and outputs alone is read
+abbrev pub FailsGates : Option (List ℕ) → CircuitFault → Type 0
+FailsGates known (Unread fault) = FailsBy known fault
+FailsGates known Sequential = IsSequential known
+FailsGates known fault = ⊥
+
+-- why two circuits are not read, the first one first
+abbrev pub FailsRead : Option (List ℕ) → Option (List ℕ) → CircuitFault → Type 0
+FailsRead known known' (Unread fault) = FailsBy known fault
+FailsRead known known' (OtherUnread fault) = IsReadable known × FailsBy known' fault
+FailsRead known known' fault = ⊥
+
+-- why two circuits of gates and outputs alone are not read; both are read before their shapes are looked at
+abbrev pub FailsBoth : Option (List ℕ) → Option (List ℕ) → CircuitFault → Type 0
+FailsBoth known known' Sequential = IsSequential known ⊎ IsSequential known'
+FailsBoth known known' fault = FailsRead known known' fault
+
+-- ---- formulas
+
+-- why there is no formula of one circuit. Not said: which circuits have none
+abbrev pub FailsNever : Option (List ℕ) → CircuitFault → Type 0
+FailsNever known (NoFormula fault) = OfGates known (λ c. Unit {0})
+FailsNever known fault = FailsGates known fault
+
+-- of two circuits
+abbrev pub FailsSame : Option (List ℕ) → Option (List ℕ) → CircuitFault → Type 0
+FailsSame known known' (NoFormula fault) = OfGates known (λ c. OfGates known' (λ c'. Unit {0}))
+FailsSame known known' fault = FailsBoth known known' fault
+
+-- of a machine and an invariant
+abbrev pub FailsSafe : Option (List ℕ) → Option (List ℕ) → CircuitFault → Type 0
+FailsSafe known known' (NoFormula fault) = IsReadable known × IsReadable known'
+FailsSafe known known' fault = FailsRead known known' fault

@@ -1,0 +1,8 @@
+use Rattle.circuit_text.specs.Aigers.{outcome_at}
+use Rattle.circuit_text.specs.Places.{after}
+use Rattle.circuit_names.specs.Starts.{place_after}
+use Rattle.circuit_names.proofs.laws.name_rows.Goals as goal
+
+pub returns : goal.returns
+unfolding outcome_at after place_after
+returns c = assumption
