@@ -18,7 +18,7 @@ abbrev pub IsSatisfied : List ℕ → Type 0
 IsSatisfied text = (clauses : List (List ℕ)) × (outcome_of text ≡ (clauses, Ended))
     × ((a : ℕ → Bool) × (all_true a clauses ≡ true))
 
--- a digest tells nothing of a text by itself: `text_of` says which text was meant by each
+-- a digest says nothing of a text by itself: `text_of` says which text was meant by each
 abbrev pub IsHonest : (List ℕ → List ℕ) → Receipt → Type 0
 IsHonest text_of (Refuted digest) = IsRefuted (text_of digest)
 IsHonest text_of (Carries digest next) = CarriesText (text_of digest) (text_of next)

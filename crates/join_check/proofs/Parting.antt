@@ -1,0 +1,29 @@
+-- The parts of a formula, cube after cube.
+use Rattle.std.proofs.Common.{◌≡◌, ℕ, Bool, false, List, [], ◌∷◌, ◌++◌, map, ap, sym, ◌∙◌, append_assoc}
+use Rattle.std.specs.Prelude.{All}
+use Rattle.std.proofs.lemmas.Bool.{false≢true}
+use Rattle.std.proofs.lemmas.List.Elements.{All-append, All-cons, All-map, All-nil}
+use Rattle.cube_rules.specs.Cubes.{clause_against, units_of}
+use Rattle.receipts.specs.Joins.{part_text, parts_of}
+use Rattle.receipts.specs.declared.receipt.Receipt.{Receipt}
+use Rattle.sat_output.specs.FormulaTexts.{formula_text}
+use Rattle.sha2.specs.Sha256.{sha256}
+use Rattle.join_check.specs.Digests.{HasShown, is_shown}
+use Rattle.join_check.specs.Verdicts.{IsUnshown}
+use Rattle.join_check.specs.declared.digests.ShownDigests.{ShownDigests}
+
+-- a part whose digest is not among those that are shown
+pub unshown_by : (formula added part : List (List ℕ)) (digest : List ℕ) (receipts : List Receipt) (shown : ShownDigests) (is : Bool) → part ≡ formula ++ added → digest ≡ sha256 (formula_text part)
+    → is ≡ is_shown shown digest → HasShown receipts shown → is ≡ false → IsUnshown receipts formula added
+unshown_by formula added part digest receipts shown is e f g all none h =
+    false≢true (sym none ∙ g ∙ rw (f, e) (all.whole (sha256 (part_text formula added)) h))
+
+-- the first of those to come is one of those before
+pub one_over : {A : Type 0} (all before left rest : List A) (x : A) → all ≡ before ++ left → left ≡ x ∷ rest → all ≡ (before ++ x ∷ []) ++ rest
+one_over all before left rest x e steps = e ∙ ap (λ l. before ++ l) steps ∙ sym (append_assoc before (x ∷ []) rest)
+
+-- the parts of the cubes, and the closing part
+pub all_parts : (P : List (List ℕ) → Type 0) (cubes : List (List ℕ)) → All (λ cube. P (units_of cube)) cubes → P (map clause_against cubes) → All P (parts_of cubes)
+all_parts P cubes units closing =
+    All-append P (map units_of cubes) (map clause_against cubes ∷ []) (All-map P units_of cubes units)
+    (All-cons P (map clause_against cubes) [] closing (All-nil P))

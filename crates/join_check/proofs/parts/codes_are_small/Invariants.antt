@@ -1,0 +1,7 @@
+use Rattle.std.specs.Prelude.{All}
+use Rattle.sat_output.specs.Words.{IsCode}
+use Rattle.join_check.proofs.parts.codes_are_small.Given as goal
+
+-- all are, if those of the clauses to come are
+abbrev pub invariant-loop-clause : goal.invariant-loop-clause
+invariant-loop-clause l = All (All IsCode) l.clause-iterator → All (All IsCode) l.formula

@@ -1,0 +1,4 @@
+pub mod Digests
+pub mod Runs
+pub mod Texts
+pub mod Verdicts

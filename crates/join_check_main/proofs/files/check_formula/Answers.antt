@@ -1,0 +1,18 @@
+use Rattle.std.proofs.Common.{◌≡◌, rules}
+use Rattle.verdicts.specs.Statuses.{status_of}
+use Rattle.join_check.specs.Verdicts.{shows_unsat}
+use Rattle.join_check_main.proofs.StatusLemmas.{line_zero, status_zero}
+use Rattle.join_check_main.proofs.files.check_formula.Goals as goal
+
+pub returns-clause-refutes : goal.returns-clause-refutes
+returns-clause-refutes g c text said of_cnf of_receipts well =
+    let status = c.exit_status.ensures in
+    let zero : status_of shows_unsat c.run_pieces-outcome.result ≡ 0 = cc in
+    let shown = status_zero c.run_pieces-outcome.result zero in
+    c.run_pieces-outcome.ensures.refutes text said (search rules) (search rules) shown.0 shown.1
+
+pub returns-clause-line : goal.returns-clause-line
+returns-clause-line g c well =
+    let status = c.exit_status.ensures in
+    let zero : status_of shows_unsat c.run_pieces-outcome.result ≡ 0 = cc in
+    line_zero _ _ c.run_pieces-outcome.result c.run_pieces-outcome.ensures.line zero

@@ -1,0 +1,73 @@
+//! The command `join_check CNF RECEIPTS [--cubes FILE]`: checks that receipts show together that no
+//! assignment satisfies a formula, and prints the verdict.
+//!
+//! With `--cubes` the receipts are those of the parts of the formula, which is split into the cubes
+//! of a file. `--example` checks a small fixed example. The name `-` is standard input.
+#![tactic(auto)]
+
+ghost use Rattle.std.specs.Prelude.{◌≡◌, ℕ, List, [], ◌∷◌, None, Ok, Some, codes, false};
+ghost use Rattle.std.specs.Io.KnownBytes.{Appends};
+ghost use Rattle.command.specs.Calls.{choices_of, is_given, operands_of, value_given};
+ghost use Rattle.command.specs.Inputs.{bytes_named};
+ghost use Rattle.join_check.specs.Texts.{IsRefutedByParts, IsRefutedByReceipts};
+ghost use Rattle.join_check.specs.Verdicts.{shown_line};
+ghost use Rattle.join_check.specs.declared.verdict.Verdict.TheVariants.{Verified};
+
+mod about;
+mod files;
+
+use crate::about::ABOUT;
+use crate::files::{check_formula, check_parts};
+use command::{Call, EXAMPLE_FORMULA, System, input_names, run_program, say_cause};
+use join_check::{exit_status, run_pieces};
+use std::io;
+use std::io::Write;
+use std::process::ExitCode;
+
+/// The formula carries to three clauses, which are refuted: 1, not 1 or 2, not 1 or not 2.
+const EXAMPLE_RECEIPTS: &[u8] =
+    b"carries sha256 bdcfed14408fb3f368fe82437336d283a9dedc953677460e9c7317724c5e1e58 sha256 5b9a41d874a0fe67c37a54d9363f7f582bd27bd7c12e48416edd0a10d736da32\nrefuted sha256 5b9a41d874a0fe67c37a54d9363f7f582bd27bd7c12e48416edd0a10d736da32\n";
+
+fn main(rt: HostRuntime) -> ExitCode {
+    run_program(&rt, &ABOUT, |call| run(&rt, call, &mut io::writer(&rt)))
+}
+
+/// Runs a call in a system, with `out` as its standard output.
+fn run<S: System, W: Write>(system: &S, call: &Call<'_>, out: &mut W) -> Result<u8, u8>
+    ensures refutes { (cnf receipts text said : List ℕ)
+        → operands_of call.now ≡ cnf ∷ receipts ∷ []
+        → is_given (choices_of call.now) (codes "--example") ≡ false
+        → value_given (choices_of call.now) (codes "--cubes") ≡ None
+        → bytes_named (S.file_bytes system.now) (S.input_bytes system.now) cnf ≡ Some text
+        → bytes_named (S.file_bytes system.now) (S.input_bytes system.now) receipts ≡ Some said
+        → result ≡ Ok 0 → IsRefutedByReceipts said text }
+    ensures parts { (cnf receipts cubes text split said : List ℕ)
+        → operands_of call.now ≡ cnf ∷ receipts ∷ []
+        → is_given (choices_of call.now) (codes "--example") ≡ false
+        → value_given (choices_of call.now) (codes "--cubes") ≡ Some cubes
+        → bytes_named (S.file_bytes system.now) (S.input_bytes system.now) cnf ≡ Some text
+        → S.file_bytes system.now cubes ≡ Some split
+        → bytes_named (S.file_bytes system.now) (S.input_bytes system.now) receipts ≡ Some said
+        → result ≡ Ok 0 → IsRefutedByParts said split text }
+    ensures line { result ≡ Ok 0 → (count : ℕ)
+        × Appends (W.contents out.old) (W.contents out.new) (shown_line (Verified count)) }
+{
+    if call.has("--example") {
+        return Ok(check_example(system, out));
+    }
+    let names = input_names(system, &ABOUT, call)?;
+    match call.value("--cubes") {
+        Some(cubes) => check_parts(system, names, cubes, out),
+        None => check_formula(system, names, out),
+    }
+}
+
+fn check_example<S: System, W: Write>(system: &S, out: &mut W) -> u8
+    ensures { result ≡ 0 → (count : ℕ)
+        × Appends (W.contents out.old) (W.contents out.new) (shown_line (Verified count)) }
+{
+    let (cnf, receipts) = (EXAMPLE_FORMULA, EXAMPLE_RECEIPTS);
+    let outcome = run_pieces(system.alloc(), cnf, receipts, out);
+    say_cause(system, &outcome);
+    exit_status(&outcome)
+}
