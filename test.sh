@@ -40,7 +40,7 @@ export -f run
 export told
 # (two more than there are processors, since at first two wait for the library)
 printf '%s\n' library 'wrong_bodies --asked' release portable slurm refused_growths sessions session_check cubes pieces failing_files drat_fuzz drat_growth lrat_fuzz drat_outputs install bindings \
-  log_lines end_to_end drat_solvers frat large_formulas named_files examples records checked checked_all verified definitions proof_picture solver_runs prove_and_run memory model_check follows circuit_check circuits dist packages |
+  log_lines end_to_end rows drat_solvers frat large_formulas named_files examples records checked checked_all verified definitions proof_picture solver_runs prove_and_run memory model_check follows join circuit_check circuits dist packages |
   xargs -P "$(($(nproc) + 2))" -I SCRIPT bash -c 'run SCRIPT'
 
 # What failed is told once more at the end, where it is looked for.

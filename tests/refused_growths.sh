@@ -116,18 +116,18 @@ run_logged() {
   echo "$name: $((number - 1)) runs, of which $unread met the reading of the arguments and $silent the log's setting"
 }
 
-# An answer that does not meet a clause: a refused growth leaves no line of a verdict.
+# run_unmet MODE CNF ANSWER PLACE: an answer that does not meet the clause at this place: a refused growth leaves no line of a verdict.
 run_unmet() {
   local mode=$1 number unread=0
   for ((number = 1; ; number++)); do
-    refuse "$mode" "$number" "$model_check" "$work/chain.cnf" "$work/unmet"
+    refuse "$mode" "$number" "$model_check" "$2" "$3"
     if ((refused == 0)); then
       break
     elif ! stopped; then
       misjudged "an answer that is not met $mode=$number"
     fi
   done
-  if [[ $status != 3 || $(cat "$work/err") != 'formula: line 3: clause 2 has no literal of the answer' ]]; then
+  if [[ $status != 3 || $(cat "$work/err") != "formula: $4 has no literal of the answer" ]]; then
     misjudged "an answer that is not met without a refused growth"
   fi
   echo "an answer that is not met $mode: $((number - 1)) runs, of which $unread met the reading of the arguments"
@@ -150,6 +150,13 @@ printf '5 268435456 0 1 3 0\n6 0 5 2 4 0\n' > "$work/far.lrat"
   echo "v $(seq -s ' ' 60) 0"
 } > "$work/answer"
 echo '1 2 -3 0' > "$work/unmet"
+printf '1 2 0 1 -2 0 -1 2 0 -1 -2 0' > "$work/small.cnf"
+# the width of the hashes, one bit, then the unit 1 and the empty clause
+printf '\x09\x01\x06\x00\x01\x00\x02\x01\x00\x06\x00\x00\x02\x00\x01\x0d' > "$work/small.proof"
+printf '5 1 0 1 2 0\n6 0 5 3 4 0\n' > "$work/small.lrat"
+printf 'p cnf 3 3\n1 2 0\n-1 3 0\n-2 -3 0\n' > "$work/three.cnf"
+printf 's SATISFIABLE\nv 1 -2 3 0\n' > "$work/three.answer"
+printf '1 2 3 0' > "$work/three.unmet"
 printf 'p cnf 2 4\n1 2 0\n1 -2 0\n-1 2 0\n-1 -2 0\n' > "$work/four"
 printf 'p cnf 2 2\n1 0\n2 0\n' > "$work/claims"
 printf '1 0\n0\n' > "$work/refuted"
@@ -158,6 +165,7 @@ printf -- '-1 -2 0\n-1 2 0\n1 -2 0\n1 2 0\n' > "$work/models"
 printf 'aig 4 2 0 2 2\n6\n8\n\3\1\3\1' > "$work/never.aig"
 printf -- '-4 0\n0\n' > "$work/never"
 printf 'aig 3 2 0 1 1\n6\n\2\2' | tee "$work/one.aig" > "$work/two.aig"
+printf 'aig 3 2 0 1 1\n0\n\2\2' > "$work/none.aig"
 printf -- '-5 0\n0\n' > "$work/same"
 mapfile -t names < <(sed 's/: as written$//' "$work/all")
 for mode in FAIL_AT FAIL_FROM; do
@@ -179,12 +187,20 @@ for mode in FAIL_AT FAIL_FROM; do
   run 'far literals by lrat_check' "$mode" 's VERIFIED UNSAT' "$lrat_check" "$work"/far.{cnf,lrat}
   run 'par10.lrat by lrat_to_proof' "$mode" '' "$lrat_to_proof" "$data"/par10.{cnf,lrat} "$work/bytes"
   run 'an answer' "$mode" 's VERIFIED SAT' "$model_check" "$work"/{chain.cnf,answer}
-  run_unmet "$mode"
+  run_unmet "$mode" "$work"/{chain.cnf,unmet} 'line 3: clause 2'
+  # over a few clauses
+  run 'four clauses' "$mode" 's UNSATISFIABLE' "$check" "$work"/small.{cnf,proof}
+  run 'four clauses with hints' "$mode" 's UNSATISFIABLE' "$check" "$work"/small.{cnf,proof} "$work/hints"
+  run 'four clauses by lrat_to_proof' "$mode" '' "$lrat_to_proof" "$work"/small.{cnf,lrat} "$work/bytes"
+  run 'an answer to three clauses' "$mode" 's VERIFIED SAT' "$model_check" "$work"/three.{cnf,answer}
+  run_unmet "$mode" "$work"/three.{cnf,unmet} 'line 4: clause 3'
   run 'claims' "$mode" 's VERIFIED FOLLOWS' "$follows" "$work"/{four,claims,refuted}
   run 'a formula for the solver' "$mode" '' "$follows" "$work"/{four,claims} --formula "$work/hints"
   run 'a core' "$mode" 's VERIFIED MINIMAL' "$minimal" "$work"/{four,refuted,models}
   run 'a circuit' "$mode" 's VERIFIED NEVER' "$circuit" never "$work/never.aig" --proof "$work/never"
   run 'two circuits' "$mode" 's VERIFIED SAME' "$circuit" same "$work"/{one,two}.aig --proof "$work/same"
+  run 'an answer of a circuit' "$mode" $'s VERIFIED POSSIBLE\ni 11\no 1' "$circuit" never "$work/one.aig" --answer "$work/answer"
+  run 'an answer of two circuits' "$mode" $'s VERIFIED DIFFERENT\ni 11\no 1\no 0' "$circuit" same "$work"/{one,none}.aig --answer "$work/answer"
   run 'a formula of circuits' "$mode" '' "$circuit" same "$work"/{one,two}.aig --formula "$work/hints"
 done
 parsed=$(awk '$1 == "p" { print "Parsed formula with " $3 " variables and " $4 " clauses" }' "$data/par10.cnf")

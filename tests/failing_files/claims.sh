@@ -38,6 +38,8 @@ write_claims() {
   printf -- '-4 0\n0\n' > never
   printf 'aig 3 2 0 1 1\n6\n\2\2' | tee one.aig > two.aig
   printf -- '-5 0\n4 0\n3 0\n2 0\n0\n' > same
+  printf 'aig 3 2 0 1 1\n0\n\2\2' > none.aig
+  printf 's SATISFIABLE\nv 2 3 0\n' > answer
 }
 
 fail_reads_of_claims() {
@@ -48,6 +50,11 @@ fail_reads_of_claims() {
   read_everywhere 'never' 0 's VERIFIED NEVER' "circuit: error reading circuit|$proof" "$circuit" never never.aig --proof never
   read_everywhere 'same' 0 's VERIFIED SAME' "circuit: error reading circuit|second circuit: error reading circuit|$proof" \
     "$circuit" same one.aig two.aig --proof same
+  read_everywhere 'possible' 0 $'s VERIFIED POSSIBLE\ni 11\no 1' "circuit: error reading circuit|answer: error reading answer" \
+    "$circuit" never one.aig --answer answer
+  read_everywhere 'different' 0 $'s VERIFIED DIFFERENT\ni 11\no 1\no 0' \
+    "circuit: error reading circuit|second circuit: error reading circuit|answer: error reading answer" \
+    "$circuit" same one.aig none.aig --answer answer
 }
 
 # Where a line or the formula for the solver can't be written whole, the status is 1, and no file is left.
@@ -62,6 +69,8 @@ fail_writes_of_claims() {
   wants 'the line of a circuit' 1 '' "$full"
   failing 'FAIL_WRITE=1' "$circuit" same one.aig two.aig --proof same
   wants 'the line of two circuits' 1 '' "$full"
+  failing 'FAIL_WRITE=1' "$circuit" never one.aig --answer answer
+  wants 'the lines of an answer' 1 '' "$full"
   for call in "$follows cnf claims" "$circuit never never.aig" "$circuit same one.aig two.aig"; do
     # shellcheck disable=SC2086 # several words
     failing '' $call --formula whole
@@ -98,10 +107,18 @@ close_streams_of_claims() {
 }
 
 bound_reads_of_claims() {
+  local circuits
   too_large 'an endless formula, by follows_check' /dev/zero 'formula: error reading formula' "$follows" /dev/zero claims proof
   too_large 'endless claims' /dev/zero 'claims: error reading formula' "$follows" cnf /dev/zero proof
   too_large 'an endless answer, by follows_check' /dev/zero 'answer: error reading answer' "$follows" cnf claims /dev/zero --answer
   too_large 'an endless core' /dev/zero 'formula: error reading formula' "$minimal" /dev/zero proof models
   failing '' "$circuit" never /dev/zero --proof never
   wants 'an endless circuit' 1 '' 'circuit: line 1: no header of an AIGER file'
+  failing '' "$circuit" never one.aig --answer /dev/zero
+  wants 'an endless answer, by circuit_check' 1 '' 'answer: line 1: malformed'
+  for circuits in '/dev/zero two.aig|circuit' 'one.aig /dev/zero|second circuit'; do
+    # shellcheck disable=SC2086 # several words
+    failing "MEMORY=$work/little" bash -c 'ulimit -v 1000000; exec "$0" "$@"' "$circuit" same ${circuits%|*} --proof same
+    wants "endless circuits: $circuits" 1 '' "${circuits#*|}: error reading circuit: file too large"$'\n''only a regular file may be larger than half of the free memory'
+  done
 }

@@ -2,6 +2,8 @@
 //
 // - MEMORY=FILE: what the system says of its memory is what this file has.
 // - FAIL_READ=N, FAIL_WRITE=N: the read, or write, of this number fails.
+// - READ_ERROR=N: the error of a failed read, in place of EIO.
+// - FULL_AFTER=N: each write after this many fails, but none to standard error.
 // - SHORT_READS=N, SHORT_WRITES=N: a read, or write, moves at most this many bytes.
 #define _GNU_SOURCE
 #include <dlfcn.h>
@@ -44,7 +46,7 @@ ssize_t read(int file, void *into, size_t size)
     if (!real)
         real = dlsym(RTLD_NEXT, "read");
     if (fails(&limits, "FAIL_READ", "SHORT_READS")) {
-        errno = EIO;
+        errno = number_in("READ_ERROR") ? (int)number_in("READ_ERROR") : EIO;
         return -1;
     }
     return real(file, into, at_most(&limits, size));
@@ -56,7 +58,8 @@ ssize_t write(int file, const void *from, size_t size)
     static struct limits limits;
     if (!real)
         real = dlsym(RTLD_NEXT, "write");
-    if (fails(&limits, "FAIL_WRITE", "SHORT_WRITES")) {
+    const char *full = getenv("FULL_AFTER");
+    if (fails(&limits, "FAIL_WRITE", "SHORT_WRITES") || (full && file != STDERR_FILENO && limits.count > atol(full))) {
         errno = ENOSPC;
         return -1;
     }

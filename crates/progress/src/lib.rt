@@ -5,8 +5,6 @@
 mod bytes;
 mod console;
 mod manner;
-#[cfg(test)]
-mod tests;
 mod told;
 
 pub use bytes::ToldBytes;

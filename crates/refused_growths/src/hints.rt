@@ -58,7 +58,7 @@ const UNIT_LINE: &str = "9 1 0 1 2 0\n";
 const EMPTY_LINE: &str = "10 0 9 3 4 0\n";
 
 /// The lines of a proof of four clauses.
-pub const LINES: &str = "9 1 0 1 2 0\n10 0 9 3 4 0\n";
+const LINES: &str = "9 1 0 1 2 0\n10 0 9 3 4 0\n";
 
 /// Passes steps to a writer. One that is refused memory leaves its output as it was, and is passed
 /// once more.

@@ -1,11 +1,9 @@
-//! Lines of an LRAT proof: a checker of them, and a converter to proof bytes.
+//! Lines of an LRAT proof, and a checker of them.
 use crate::few::lits;
 use crate::hints::formula;
 use crate::outcome::{Memory, Played, Stop, Wrong};
-use arrayvec::ArrayVec;
 use lrat_checker::{LineFault, LratChecker};
 use lrat_text::{Hint, LratLine};
-use lrat_to_proof::{Conversion, ConvertFault, HashWidth, convert_proof};
 use std::alloc::Global;
 
 /// A line that adds a clause.
@@ -28,16 +26,6 @@ const ADDITIONS: [Addition; 2] = [
         clause: "",
         hints: &[Hint::Along(5), Hint::Along(3), Hint::Along(4)],
     },
-];
-
-/// The lines as text.
-const TEXT: &[u8] = b"5 1 0 1 2 0\n6 0 5 3 4 0\n";
-
-/// The lines as proof bytes.
-const BYTES: [u8; 44] = [
-    0x00, 0x02, 0x06, 0x01, 0x01, 0x00, 0x02, 0x2A, 0x08, 0x95, 0x02, 0x93, 0x75, 0xAF, 0xC4, 0x41,
-    0x8C, 0x63, 0x82, 0x54, 0xFF, 0xE7, 0x66, 0x06, 0x01, 0x00, 0x02, 0x15, 0x8C, 0x4B, 0x83, 0x5A,
-    0xFE, 0xD7, 0x66, 0x7E, 0x08, 0xBD, 0x03, 0x9D, 0x74, 0x9F, 0xC4, 0x0D,
 ];
 
 /// Makes a checker of lines, and passes it one after the other. Once memory is refused it has
@@ -82,22 +70,5 @@ fn is_accepted(checker: &mut LratChecker, line: LratLine<'_>) -> Result<bool, St
     match checker.check_line(LratLine::Delete { ids: &[1] }) {
         Err(LineFault::Failed) if !checker.refuted() => Ok(false),
         _ => Err(Stop::Wrong(Wrong::AnswerAfterFailure)),
-    }
-}
-
-/// Converts the text. A beginning of the bytes is written, and all of them if no memory is refused.
-pub fn convert_lines(alloc: Global) -> Played {
-    let Some(formula) = formula(alloc)? else {
-        return Ok(Memory::Wanting);
-    };
-    let mut out = ArrayVec::<u8, 64>::new();
-    let answer = convert_proof(alloc, &formula, TEXT, None, HashWidth::full(), &mut out);
-    if !BYTES.starts_with(out.as_slice()) {
-        return Err(Stop::Wrong(Wrong::Written));
-    }
-    match answer {
-        Ok(Conversion::Refuted) if out.len() == BYTES.len() => Ok(Memory::Ample),
-        Err(ConvertFault::OutOfMemory) => Ok(Memory::Wanting),
-        _ => Err(Stop::Wrong(Wrong::Answer)),
     }
 }

@@ -11,7 +11,6 @@
 #![tactic(auto)]
 
 mod answer;
-mod answers;
 mod boxes;
 mod call;
 mod few;

@@ -5,11 +5,11 @@ use crate::scripts::{
     ANNOUNCED_COUNT, COLLECTION, DELETIONS, LITERAL_BUFFER, REFUTATION, SHORT_LIST,
     SOLVER_NAME_REMOVED, SOLVER_NAMES, TEXT_AND_PROOF, TEXTS, UNITS, USER_NAMES,
 };
-use crate::{answers, boxes, formulas, hints, lrat, proof_texts, runs};
+use crate::{boxes, formulas, hints, lrat, proof_texts, runs};
 use std::alloc::Global;
 
 /// All rows.
-pub const NAMES: [&str; 27] = [
+pub const NAMES: [&str; 23] = [
     "refutation",
     "solver_names",
     "deletions",
@@ -33,10 +33,6 @@ pub const NAMES: [&str; 27] = [
     "written_hints",
     "checked_hints",
     "checked_lines",
-    "converted_lines",
-    "checked_answers",
-    "run",
-    "run_with_hints",
 ];
 
 /// Rows in which each read fails in turn.
@@ -68,10 +64,6 @@ pub fn play(alloc: Global, name: &str) -> Option<Played> {
         "written_hints" => hints::write_lines(alloc),
         "checked_hints" => hints::check_lines(alloc),
         "checked_lines" => lrat::check_lines(alloc),
-        "converted_lines" => lrat::convert_lines(alloc),
-        "checked_answers" => answers::check_answers(alloc),
-        "run" => runs::check_four(alloc),
-        "run_with_hints" => runs::write_four(alloc),
         "failing_reads_of_a_proof" => runs::fail_reads_of_proof(alloc),
         "failing_reads_of_texts" => runs::fail_reads_of_texts(alloc),
         _ => return None,

@@ -1,55 +1,20 @@
-//! Runs with a verdict: whole ones, and ones with a read that fails.
+//! Runs of which a read fails.
 use crate::answer::{Answer, FAILED, WANT_OF_A_BOX, WANT_OF_MEMORY, step_answer, text_answer};
-use crate::hints::{LINES, formula};
 use crate::outcome::{Memory, Played, Stop, Wrong};
 use crate::proof_texts::PROOF;
 use crate::reader::Bytewise;
 use arrayvec::ArrayVec;
 use log::sink::Discard;
-use sat_hints::LratWriter;
 use std::alloc::Global;
 use std::fmt::Write;
-use varisat_check::{RunFault, Verdict, run_check, run_lrat, run_proof};
+use varisat_check::{RunFault, run_proof};
 use varisat_checker::Checker;
 
 /// The four clauses over two variables.
 pub const FOUR: &[u8] = b"1 2 0 1 -2 0 -1 2 0 -1 -2 0";
 
-/// The line of a run that shows them unsatisfiable.
-const LINE: &[u8] = b"s UNSATISFIABLE\n";
-
 /// What a run writes; it has more capacity than a verdict needs.
 type Written = ArrayVec<u8, 64>;
-
-/// Checks the proof of four clauses. Without a verdict no line may be written.
-pub fn check_four(alloc: Global) -> Played {
-    let mut out = Written::new();
-    let answer = run_check(&Discard, alloc, FOUR, PROOF, &mut out, &mut None);
-    match answer {
-        Ok(Verdict::Unsatisfiable) if out.as_slice() == LINE => Ok(Memory::Ample),
-        Err(fault) if out.is_empty() => is_want(&fault),
-        _ => Err(Stop::Wrong(Wrong::Written)),
-    }
-}
-
-/// Makes a run with lines of hints. Without a verdict none may be written.
-pub fn write_four(alloc: Global) -> Played {
-    let Some(formula) = formula(alloc)? else {
-        return Ok(Memory::Wanting);
-    };
-    let (mut out, mut lrat) = (Written::new(), Written::new());
-    let writer = LratWriter::new(alloc, 4);
-    match run_lrat(
-        &Discard, alloc, &formula, writer, PROOF, &mut out, &mut lrat,
-    ) {
-        Ok((Verdict::Unsatisfiable, _))
-            if out.as_slice() == LINE && lrat.as_slice() == LINES.as_bytes() => {
-            Ok(Memory::Ample)
-        }
-        Err(fault) if out.is_empty() && lrat.is_empty() => is_want(&fault),
-        _ => Err(Stop::Wrong(Wrong::Written)),
-    }
-}
 
 /// Checks that a run is out of memory, in its checker or its writer.
 pub fn is_want(fault: &RunFault) -> Played {

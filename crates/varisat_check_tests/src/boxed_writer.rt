@@ -1,6 +1,5 @@
 //! A run whose writer of hints is a box, which is handed back.
-use crate::four_clauses::WIDTH_1;
-use crate::lrat::LINES;
+use crate::four_clauses::{LINES, WIDTH_1};
 use checker_parts::processor::ProofProcessor;
 use log::sink::Discard;
 use sat_formula::{CnfFormula, read_formula};

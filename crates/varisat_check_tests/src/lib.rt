@@ -1,7 +1,8 @@
-//! What no clause of `varisat_check` says, as tests: runs with what they write, texts of faults,
-//! readers and writers that fail, and a writer of hints in a box.
+//! What no clause of `varisat_check` and of the crates for hints says, as tests: formulas that are
+//! read, runs that no program makes, and a writer of hints in a box. Other runs are rows of
+//! `tests/rows`.
 //!
-//! They stand apart so that the library is not proved a second time with them.
+//! They stand apart so that no library is proved a second time with them.
 #![tactic(auto)]
 
 #[cfg(test)]
@@ -11,6 +12,8 @@ mod formula;
 #[cfg(test)]
 mod four_clauses;
 #[cfg(test)]
+mod hints;
+#[cfg(test)]
 mod library;
 #[cfg(test)]
 mod lrat;
@@ -18,5 +21,3 @@ mod lrat;
 mod outcomes;
 #[cfg(test)]
 mod runs;
-#[cfg(test)]
-mod streams;

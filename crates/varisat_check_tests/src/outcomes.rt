@@ -1,8 +1,7 @@
 //! What runs over a proof answer and write.
-use crate::four_clauses::first_missing;
 use std::alloc::Global;
 use std::process::Abort;
-use test_streams::{Ended, Outcome, Page, Shown};
+use test_streams::{Ended, Outcome, Page};
 use varisat_check::{RunFault, Verdict, exit_status};
 
 /// The formula is unsatisfiable.
@@ -24,12 +23,4 @@ pub fn has_outcome(
 ) {
     let ended = Ended::of(alloc, written, &answer, exit_status(&answer));
     assert_eq!(rt; ended.outcome(), outcome);
-}
-
-/// Returns the text of the fault if there are this many bytes of the proof at width 1.
-pub fn incomplete(alloc: Global, len: usize) -> Shown {
-    let mut text = Shown::new(alloc);
-    text.number("step ", first_missing(len));
-    text.words(": Unexpected end of proof file");
-    text
 }
