@@ -4,7 +4,7 @@
 #   tools/portable.sh [--built] OUT NAME..
 #   tools/portable.sh --module NAME..
 #
-# NAME is `drat_check`, `lrat_check` or `model_check`, or `follows_check`, `minimal_check` or `circuit_check`, which are not in the page.
+# NAME is `drat_check`, `lrat_check`, `model_check` or `circuit_check`, or `follows_check` or `minimal_check`, which are not in the page.
 # OUT gets these forms; one that can't be made here says what is missing:
 #
 #   NAME.wasm, cefindrato.mjs   WebAssembly, and what runs it: `node cefindrato.mjs NAME WORD..`
@@ -19,7 +19,7 @@
 set -euo pipefail
 
 usage() {
-  echo "usage: tools/portable.sh [--built] OUT NAME.., or --module NAME.. (drat_check, lrat_check, model_check, follows_check, minimal_check, circuit_check)" >&2
+  echo "usage: tools/portable.sh [--built] OUT NAME.., or --module NAME.. (drat_check, lrat_check, model_check, circuit_check, follows_check, minimal_check)" >&2
   exit 2
 }
 is_built='' is_module='' out=''
@@ -44,8 +44,8 @@ fi
 shown=()
 for name in "${names[@]}"; do
   case $name in
-    drat_check | lrat_check | model_check) shown+=("$name") ;;
-    follows_check | minimal_check | circuit_check) ;;
+    drat_check | lrat_check | model_check | circuit_check) shown+=("$name") ;;
+    follows_check | minimal_check) ;;
     *) usage ;;
   esac
 done

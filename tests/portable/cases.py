@@ -10,6 +10,10 @@ import json
 import sys
 
 FOUR = b"p cnf 2 4\n1 2 0\n1 -2 0\n-1 2 0\n-1 -2 0\n"
+# two inputs and their conjunction; an input and the conjunction of it with its negation
+GATE = b"aig 3 2 0 1 1\n6\n\2\2"
+FALSE = b"aig 2 1 0 1 1\n4\n\1\1"
+TEXT = "aag 3 2 0 1 1\n2\n4\n6\n6 4 2\n"
 OTHER = b"p cnf 3 3\n1 2 0\n-1 3 0\n-2 -3 0\n"
 TOO_LARGE = 2**31 + 1
 VERIFIED = "s VERIFIED UNSAT"
@@ -53,15 +57,28 @@ def main(data, folder, *names):
             case("model", [], "s VERIFIED SAT", "Every assignment", drop=[["some", "s SATISFIABLE\nv 1 -2 3 0\n"], ["other", OTHER.decode()]]),
         ],
     }
+    gate, false = file("gate.aig", GATE), file("false.aig", FALSE)
+    wanted = [["one.aag", TEXT], ["equal", "-5 0\n0\n"], ["two.aag", TEXT]]
+    each["circuit_check"] = [
+        case("never", [false, file("never", b"0\n")], "s VERIFIED NEVER", "No input makes an output"),
+        case("never", [gate, file("open", b"")], "s NOT VERIFIED", "shows nothing of the circuit"),
+        case("never", [], "s VERIFIED NEVER", "No input makes an output", click="example"),
+        case("same", [gate, file("gate2.aig", GATE), file("equal", b"-5 0\n0\n")], "s VERIFIED SAME", "Both circuits have the same outputs"),
+        case("same", [gate, false, file("equal", b"-5 0\n0\n")], REFUSED, "the circuits have different numbers of inputs"),
+        case("same", [gate, gate], "Three files are needed", "Choose both circuits"),
+        case("same", [], "s VERIFIED SAME", "Both circuits have the same outputs", click="example"),
+        case("same", [], "s VERIFIED SAME", "Both circuits have the same outputs", drop=wanted),
+    ]
     names = [name for name in names if name in each]
-    kind = {"drat_check": "drat", "lrat_check": "lrat", "model_check": "model"}[names[0]]
+    kind = {"drat_check": "drat", "lrat_check": "lrat", "model_check": "model", "circuit_check": "never"}[names[0]]
+    subject = "circuit" if kind == "never" else "formula"
     second = file("second", b"1 0\n")
     made = [it for name in names for it in each[name]]
     made += [
-        case(kind, [second, four], "The files are the wrong way round", "four.cnf begins as a formula does"),
+        case(kind, [second, four], "The files are the wrong way round", f"four.cnf begins as a {subject} does"),
         case(kind, [packed, second], "four.cnf.gz is packed", "It begins as a file of gzip"),
         case(kind, [four, large], "large.proof is too large for a page", "It has 2.1 GB"),
-        case(kind, [four], "Two files are needed", "Choose the formula"),
+        case(kind, [four], "Two files are needed", f"Choose the {subject}"),
     ]
     json.dump(made, sys.stdout)
 

@@ -1,4 +1,4 @@
-// Plays the page in Chromium without a window: gives it two files as a user does, and compares what it says.
+// Plays the page in Chromium without a window: gives it two files or three as a user does, and compares what it says.
 //
 //   node page.mjs PAGE FOLDER < CASES
 //
@@ -58,14 +58,14 @@ const dropped = (files) => `(() => {
 async function play({ kind, files = [], click = 'check', drop = undefined, verdict, said }) {
   await call('Page.navigate', { url: `file://${resolve(page)}` })
   await until("document.readyState === 'complete' && !!document.querySelector('input[name=kind]:checked')")
-  for (const [i, which] of ['formula', 'second'].entries()) {
+  for (const [i, which] of (kind === 'same' ? ['formula', 'other', 'second'] : ['formula', 'second']).entries()) {
     if (!files[i]) continue
     await give(`#${which}`, [files[i]])
     await until(`document.getElementById('${which}-zone').classList.contains('full')`)
   }
   if (drop) {
     await ask(dropped(drop))
-    await until(`document.querySelectorAll('.zone.full').length === 2`)
+    await until(`document.querySelectorAll('.zone.full').length === ${drop.length}`)
   } else await ask(`document.querySelector('input[name=kind][value=${kind}]').click()`)
   await ask(`document.getElementById('${click}').click()`)
   await until("/good|bad/.test(document.getElementById('result').className)")
