@@ -19,8 +19,11 @@ CLAIMS = {
     "FOLLOWS": ("crates/follows_check/specs/Texts.antt", "FollowsText"),
     "NOT FOLLOWS": ("crates/follows_check/specs/Texts.antt", "NotFollowsText"),
     "MINIMAL": ("crates/follows_check/specs/Minimal.antt", "IsMinimalText"),
+    "UNSAT BY N RECEIPTS": ("crates/join_check/specs/Texts.antt", "IsRefutedByReceipts", "IsRefutedByParts"),
     "NEVER": ("crates/circuit_check/specs/Claims.antt", "IsNeverText"),
     "SAME": ("crates/circuit_check/specs/Claims.antt", "IsSameText"),
+    "POSSIBLE": ("crates/circuit_check/specs/Claims.antt", "IsPossibleText"),
+    "DIFFERENT": ("crates/circuit_check/specs/Claims.antt", "AreDifferentText"),
     "SAFE": ("crates/circuit_check/specs/Claims.antt", "IsSafeText"),
 }
 # What is not followed: what a text is read as.
@@ -36,7 +39,8 @@ HEAD = """# What `s VERIFIED UNSAT` means, whole
 
 This page is all that the line claims: the {count} definitions that `IsRefuted` reaches, {lines} lines with their comments. \
 `docs/definitions_page.py` makes it. What is proved about the claim, and what you trust, is in \
-[TRUST.md](TRUST.md). `docs/definitions.py` has the same definitions in Python, to run on your own texts.
+[TRUST.md](TRUST.md). `docs/definitions.py` has the same definitions in Python, to run on your own texts, and `docs/definitions.v` \
+for Coq.
 
 ## Notation
 
@@ -135,9 +139,10 @@ def enum(path, name):
 def claims(files, above):
     """A part for each line of a claim, with the definitions that are not above it."""
     found = set(above)
-    for line, first in CLAIMS.items():
+    for line, (home, *names) in CLAIMS.items():
         yield f"\n## `s VERIFIED {line}`\n"
-        new = [it for it in reached(files, first, lambda path: path.startswith(READ)) if it not in found]
+        every = (it for name in names for it in reached(files, (home, name), lambda path: path.startswith(READ)))
+        new = [it for it in dict.fromkeys(every) if it not in found]
         found.update(new)
         for path in dict.fromkeys(path for path, _ in new):
             mine = [text for name, text in files[path].definitions.items() if (path, name) in new]
@@ -175,4 +180,5 @@ def main(words):
     return 0
 
 
-sys.exit(main(sys.argv[1:]))
+if __name__ == "__main__":
+    sys.exit(main(sys.argv[1:]))

@@ -1,6 +1,6 @@
 #!/usr/bin/env bash
 # The definitions in Python (docs/definitions.py) against `lrat_check`, over 3000 random texts: the fault and its line, or the
-# verdict; and against the other checkers, over formulas that all assignments are tried on.
+# verdict; and against the other checkers, over formulas that all assignments are tried on. And against those for Coq.
 #
 # The programs must be built: `rt ci` does it, or `rt run` in their folders.
 set -euo pipefail
@@ -26,6 +26,25 @@ chmod +x "$work/liar"
 if LRAT_CHECK=$work/liar "${definitions[@]}" --try 50 1 > "$work/said"; then
   echo "a checker that lies is not found out"
   wrong=1
+fi
+
+# For Coq, if it is there: it reads the definitions, and proves of random texts what the definitions in Python say of them; and it
+# does not prove another outcome.
+if command -v coqc > "$work/where"; then
+  cp "$top/docs/definitions.v" "$work/definitions.v"
+  python3 -B "$top/docs/definitions_coq.py" --rows 400 1 > "$work/rows.v"
+  sed 's/Ended)/Faulty 9 BadHeader)/' "$work/rows.v" > "$work/turned.v"
+  if (cd "$work" && coqc -q definitions.v && coqc -q rows.v); then
+    echo "Coq proves $(grep -c '^Theorem' "$work/rows.v") rows, $(grep -c 'Ended)' "$work/rows.v") of them without a fault"
+  else
+    wrong=1
+  fi
+  if (cd "$work" && coqc -q turned.v > "$work/said" 2>&1); then
+    echo "Coq proves a turned row"
+    wrong=1
+  fi
+else
+  echo "coqc is not installed: not tried"
 fi
 
 # By cadical, if it is there: each answer that a checker verifies is the one of the definitions.

@@ -1,10 +1,12 @@
 #!/usr/bin/env bash
 # What the documents say of files: links, names, counts of lines, quotations, laws, clauses of contracts, crates, calls;
 # that they have at most 30,000 words together (tests/documents/main.py says how these are counted); that the pictures are
-# those of `crates.txt` and of the table of times, and that the page of definitions is the one of the files of definitions.
+# those of `crates.txt` and of the table of times, and that the page of definitions, and the one for Coq, are those of the files of
+# definitions.
 set -euo pipefail
 cd "$(dirname "$0")/.."
 python3 -B docs/picture.py --check
 python3 -B docs/definitions_page.py --check
+python3 -B docs/definitions_coq.py --check
 python3 -B benches/picture.py --check
 exec python3 -B tests/documents/main.py
