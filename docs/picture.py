@@ -24,6 +24,7 @@ WAYS = {
     "follows_check": ("drat_text", "drat_elaborate", "lrat_checker", "follows_check"),
     "minimal_check": ("drat_text", "drat_elaborate", "lrat_checker", "follows_check"),
     "session_check": ("session_text", "session_checker", "session_check"),
+    "join_check": ("receipts", "join_check"),
     "drat_cut": ("drat_text", "drat_cut"),
     "lrat_to_proof": ("lrat_text", "lrat_to_proof"),
 }
@@ -43,6 +44,7 @@ FILES = {
     "LRAT": "LRAT text",
     "PROOF": "proof bytes",
     "ANSWER": "answer",
+    "RECEIPTS": "receipts",
     "drat_check PROOF": "DRAT or FRAT",
     "session_check PROOF": "LIDRUP text",
 }

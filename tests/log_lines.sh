@@ -58,10 +58,10 @@ printf 'p cnf 2 4\n1 2 0\n1 -2 0\n-1 2 0\n-1 -2 0\n' > "$work/cnf"
 printf '5 1 0 1 2 0\n6 0 5 3 4 0\n' > "$work/lrat"
 printf 'd 1 2 3 0\n1 0\n' > "$work/drat"
 
-# slow FILE: its bytes, the last one after more than twice the time from one report to the next
+# slow FILE: its bytes, the last one after four times the time from one report to the next: a program may begin late
 slow() {
   head -c -1 "$1"
-  sleep 1.1
+  sleep 2
   tail -c 1 "$1"
 }
 

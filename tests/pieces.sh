@@ -12,7 +12,7 @@ top=$(cd "$(dirname "$0")/.." && pwd)
 work=$(mktemp -d)
 trap 'rm -rf "$work"' EXIT
 mkdir "$work/bin" "$work/room"
-for program in drat_cut drat_check lrat_check model_check; do
+for program in drat_cut drat_check lrat_check model_check join_check; do
   built=$top/crates/${program}_main/out/${program}_main
   if [[ ! -x $built ]]; then
     echo "not built: $built"
@@ -174,14 +174,23 @@ says 0 $'1\n2' pieces left eight.cnf two
 says 0 '' pieces check eight.cnf two 1
 says 0 '2' pieces left eight.cnf two
 says 1 $'2: not verified\n1 of 2 pieces are not verified' pieces report eight.cnf two
+# joins STATUS FORMULA: by the receipts of all pieces, or of too few
+joins() {
+  local said='s VERIFIED UNSAT BY 2 RECEIPTS'
+  [[ $1 == 0 ]] || said=$'s NOT VERIFIED\nno receipts lead from the formula to one that is refuted'
+  says "$1" "$said" bash -c "pieces receipts $2 two | join_check $2 -"
+}
+joins 3 eight.cnf
 says 0 '' pieces check eight.cnf two 2
 whole='all pieces are verified: 2, and the last one is refuted: s VERIFIED UNSAT'
 says 0 "$whole" pieces report eight.cnf two
+joins 0 eight.cnf
 says 0 '' pieces left eight.cnf two
 
 # what is kept is of these clauses alone: of this formula, and of the clauses that the neighbour has
 sed 5d eight.cnf > seven.cnf
 says 1 $'1: what is kept is of another formula\n1 of 2 pieces are not verified' pieces report seven.cnf two
+joins 3 seven.cnf
 fails 1 '1: two/1.drat is refused' pieces check seven.cnf two 1
 says 1 $'1: not verified\n1 of 2 pieces are not verified' pieces report eight.cnf two
 says 0 '' pieces check eight.cnf two 1
@@ -199,6 +208,7 @@ says 0 '' pieces check eight.cnf two 2
 cp kept two/2.cnf
 says 0 '' pieces check eight.cnf two 1
 says 1 $'2: what is kept is of other clauses\n1 of 2 pieces are not verified' pieces report eight.cnf two
+joins 3 eight.cnf
 says 0 '2' pieces left eight.cnf two
 says 0 '' pieces check eight.cnf two 2
 says 0 "$whole" pieces report eight.cnf two

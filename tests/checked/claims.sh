@@ -56,13 +56,9 @@ because 'was asked for no proof'
 ends 3 '' checked --never quiet never.aig
 ends 3 '' checked --limit 1 --same sleepy one.aig two.aig
 because 'there is no verdict after 1 seconds'
-# an answer that is right of circuits, where circuit_check takes it
-if circuit_check --help | grep -q -- '--answer'; then
-  ends 10 $'s VERIFIED POSSIBLE\ni 11\no 1' checked --never assigns one.aig
-  ends 10 $'s VERIFIED DIFFERENT\ni 10\no 0\no 1' checked --same differs one.aig or.aig
-else
-  ends 1 '' checked --never assigns one.aig
-fi
+# an answer that is right of circuits
+ends 10 $'s VERIFIED POSSIBLE\ni 11\no 1' checked --never assigns one.aig
+ends 10 $'s VERIFIED DIFFERENT\ni 10\no 0\no 1' checked --same differs one.aig or.aig
 
 # the program of the claim, which says the line, and what stands for it
 ends 1 '' env FOLLOWS_CHECK=true checked --follows forced.cnf refutes options.cnf

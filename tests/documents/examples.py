@@ -69,6 +69,18 @@ ROW = {
 }
 
 
+# The parts of the refuted formula by the cubes 1 and -1, and the closing part.
+PARTS = {
+    "1": REFUTED.replace(b"2 4", b"2 5") + b"1 0\n",
+    "2": REFUTED.replace(b"2 4", b"2 5") + b"-1 0\n",
+    "closing": REFUTED.replace(b"2 4", b"2 6") + b"-1 0\n1 0\n",
+}
+
+
+def receipt(text):
+    return f"refuted sha256 {hashlib.sha256(text).hexdigest()}\n".encode()
+
+
 def examples(document):
     """The commands, each with what it prints."""
     with open(document, encoding="utf-8") as file:
@@ -109,12 +121,16 @@ def furnish(room, program):
         "before.aig": CIRCUIT,
         "after.aig": CIRCUIT,
         "same.drat": SAME,
+        "circuit.aig": CIRCUIT,
+        "circuit.answer": b"s SATISFIABLE\nv 2 3 0\n",
         "asked.cnf": REFUTED,
         "core.cnf": REFUTED,
         "core.drat": DRAT,
         "models": b"-1 -2 0\n-1 2 0\n1 -2 0\n1 2 0\n",
         "cubes.txt": b"1 0\n-1 0\n",
         **{f"parts/{part}.drat": b"0\n" for part in ("1", "2", "closing")},
+        **{f"parts/{part}.receipt": receipt(text) for part, text in PARTS.items()},
+        "pieces/1.receipt": receipt(REFUTED),
         "pieces/1.drat": DRAT,
         "pieces/count": b"1\n",
         "session.icnf": ICNF,
