@@ -1,6 +1,6 @@
 #!/usr/bin/env bash
-# Installs the programs, the library for other languages, the layers that record sessions, man pages and completions, or takes them
-# away again.
+# Installs the programs, the library for other languages, the layers that record sessions or check them, man pages and completions, or
+# takes them away again.
 #
 #   ./install.sh [--built | --dist] PREFIX
 #   ./install.sh --uninstall PREFIX
@@ -97,12 +97,12 @@ put_program() {
   put 644 "$work/$1.fish" "share/fish/vendor_completions.d/$1.fish"
 }
 
-# put_layers: puts what records sessions: as sources, and for picosat as the library that is loaded ahead of it. No name of C++ is
-# left visible in that, so that it meets no other library's.
+# put_layers: puts what records sessions and what checks them: as sources, and for picosat as the library that is loaded ahead of it. No
+# name of C++ is left visible in that, so that it meets no other library's.
 put_layers() {
   local name
-  for name in "$top"/bindings/sessions/*; do
-    put 644 "$name" "share/cefindrato/sessions/${name##*/}"
+  for name in "$top"/bindings/{sessions,ipasir}/*; do
+    put 644 "$name" "share/cefindrato/${name#"$top/bindings/"}"
   done
   if ! command -v "${CXX:-c++}" > "$work/said"; then
     echo "${CXX:-c++} is not installed: no picosat_preload.so" >&2
@@ -114,34 +114,43 @@ put_layers() {
   put 644 "$work/picosat_preload.so" lib/cefindrato/picosat_preload.so
 }
 
-# put_library: puts the library with its headers, and what pkg-config reads
+# put_library: puts the library with its headers, and the layer over CaDiCaL, if that is there
 put_library() {
-  local name header
+  local header
   if [[ $mode == built ]]; then
     "$top/bindings/build.sh" --built "$work"
   else
     "$top/bindings/build.sh" "$work"
   fi
-  cat > "$work/cefindrato.pc" << END
+  for header in "$top"/bindings/{c,cpp}/*.h*; do
+    put 644 "$header" "include/${header##*/}"
+  done
+  put_linked cefindrato 'Proved checkers of proofs and answers of SAT solvers'
+  if [[ -f $work/libcefindrato_ipasir.so ]]; then
+    put_linked cefindrato_ipasir 'IPASIR over CaDiCaL, with a proved check of each answer'
+  fi
+}
+
+# put_linked NAME TEXT: puts both forms of a library, and what pkg-config reads
+put_linked() {
+  local name
+  cat > "$work/$1.pc" << END
 prefix=\${pcfiledir}/../..
 includedir=\${prefix}/include
 libdir=\${prefix}/lib
 
-Name: cefindrato
-Description: Proved checkers of proofs and answers of SAT solvers
+Name: $1
+Description: $2
 Version: $version
 Cflags: -I\${includedir}
-Libs: -L\${libdir} -lcefindrato
+Libs: -L\${libdir} -l$1
 END
-  for header in "$top"/bindings/{c,cpp}/*.h*; do
-    put 644 "$header" "include/${header##*/}"
+  put 644 "$work/lib$1.a" "lib/lib$1.a"
+  put 644 "$work/lib$1.so" "lib/lib$1.so.$version"
+  for name in "lib$1.so.0" "lib$1.so"; do
+    ln -s "lib$1.so.$version" "$stage/lib/$name"
   done
-  put 644 "$work/libcefindrato.a" lib/libcefindrato.a
-  put 644 "$work/libcefindrato.so" "lib/libcefindrato.so.$version"
-  for name in libcefindrato.so.0 libcefindrato.so; do
-    ln -s "libcefindrato.so.$version" "$stage/lib/$name"
-  done
-  put 644 "$work/cefindrato.pc" lib/pkgconfig/cefindrato.pc
+  put 644 "$work/$1.pc" "lib/pkgconfig/$1.pc"
 }
 
 stage=$work/stage

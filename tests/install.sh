@@ -153,7 +153,7 @@ said=$(
   cubes check four.cnf two.txt parts 1 2 closing
   cubes report four.cnf two.txt parts
 )
-same 'cubes' 'all parts are verified: 2 cubes, and the closing formula' "$said"
+same 'cubes' 's VERIFIED UNSAT BY 3 RECEIPTS' "$said"
 printf '#!/bin/sh\necho 0 > "$2"; exit 20\n' > "$work/solver"
 chmod +x "$work/solver"
 printf '1 0\n-1 0\n' > "$work/opposite.cnf"
@@ -178,7 +178,22 @@ if has c++; then
     echo 'picosat is not installed: not tried'
   fi
 fi
-same 'sources of the layers' "$(cd "$top/bindings/sessions" && sha256sum -- *)" "$(cd "$prefix/share/cefindrato/sessions" && sha256sum -- *)"
+for name in sessions ipasir; do
+  same "sources of $name" "$(cd "$top/bindings/$name" && sha256sum -- *)" "$(cd "$prefix/share/cefindrato/$name" && sha256sum -- *)"
+done
+
+# what checks them: the layer as it is installed, by `verified --run`, for a program that is linked with it by its place
+if has c++ && [[ -e $prefix/lib/libcefindrato_ipasir.so ]]; then
+  layer=$prefix/lib/libcefindrato_ipasir.so
+  same 'names of that layer' '' "$(nm -D --defined-only "$layer" | awk '{ print $3 }' | grep -v '^ipasir_' || true)"
+  cc -O2 -I "$top/bindings/sessions" -o "$work/circuit" "$top/tests/sessions/circuit.c" "$layer"
+  said=$("$prefix/bin/verified" --run env "LD_LIBRARY_PATH=$prefix/lib" "$work/circuit" 3 5 2>&1)
+  same 'a session that is checked' $'5 satisfiable, 15 unsatisfiable\ncefindrato: 20 answers, all shown: 5 satisfiable, 15 unsatisfiable, 0 unknown' "$said"
+  # (the sources as they are installed, over the library as it is installed)
+  c++ -std=c++17 -I "$prefix/include" -c -o "$work/layer.o" "$prefix/share/cefindrato/ipasir/ipasir_checked.cpp"
+else
+  echo 'no layer over CaDiCaL: not tried'
+fi
 
 # the library by pkg-config, in a folder that was moved: the shared one, and the static one
 if has pkg-config; then
@@ -190,6 +205,12 @@ if has pkg-config; then
   data=("$top/tests/data/board6.cnf" "$top/tests/data/board6.lrat")
   cc -pthread "${flags[@]}" -o "$work/shared" "$top/tests/bindings/test.c" "${libraries[@]}"
   LD_LIBRARY_PATH=$prefix/lib "$work/shared" "${data[@]}" || wrong=1
+  if [[ -e $prefix/lib/libcefindrato_ipasir.so ]]; then
+    eval "layer_flags=($(pkg-config --cflags --libs cefindrato_ipasir))"
+    cc -I "$top/bindings/sessions" -o "$work/circuit" "$top/tests/sessions/circuit.c" "${layer_flags[@]}"
+    same 'the layer by pkg-config' 'cefindrato: 8 answers, all shown: 2 satisfiable, 6 unsatisfiable, 0 unknown' \
+      "$(LD_LIBRARY_PATH=$prefix/lib "$work/circuit" 3 2 2>&1 > "$work/said")"
+  fi
   cc -pthread "${flags[@]}" -o "$work/static" "$top/tests/bindings/test.c" "$prefix/lib/libcefindrato.a"
   "$work/static" "${data[@]}" || wrong=1
   if has c++; then

@@ -13,7 +13,7 @@
 #
 # The programs must be built, as `rt ci` or `rt run` leaves them, and `rt` be on the path. GATE is the output of `rt ci`: without it
 # PROVED says that no whole test run stands behind it. Static programs are linked from the objects beside the programs. An `rt ci`
-# that takes a program from an earlier run leaves no object of it: then it is said which are missing, and `rt run` or `rt ci --anew`
+# that takes a program from an earlier run leaves no object of it: then it is said which are missing, and `rt run` or `rt ci`
 # leaves them. The same sources and tools give the same bytes: all times are that of the commit, or SOURCE_DATE_EPOCH.
 set -euo pipefail
 
@@ -54,6 +54,9 @@ version=$("$stage/bin/lrat_check" --version | cut -d ' ' -f 2)
 name=cefindrato-$version-linux-x86_64
 documents=$work/documents
 python3 -B "$own/documents.py" "$top" "$documents"
+if [[ -f $stage/lib/libcefindrato_ipasir.a ]]; then
+  cp "$own/LICENSE.cadical" "$documents/"
+fi
 
 # static_programs: those of which the object is there, linked with a C library in place of the toolchain's archives; and the scripts
 static_programs() {

@@ -15,6 +15,10 @@ mkdir -p "$root/usr/share/doc" "$root/usr/share/lintian/overrides"
 cp -R "$2" "$documents"
 cp "$own/../../debian/copyright" "$documents/"
 ln -sf copyright "$documents/LICENSE"
+if [[ -f $documents/LICENSE.cadical ]]; then
+  { echo && cat "$own/copyright.cadical"; } >> "$documents/copyright"
+  rm "$documents/LICENSE.cadical"
+fi
 maintainer=$(sed -n 's/^Maintainer: //p' "$own/control")
 printf 'cefindrato (%s) unstable; urgency=medium\n\n  * See CHANGELOG.md.\n\n -- %s  %s\n' \
   "$3" "$maintainer" "$(date -u -R -d "@$SOURCE_DATE_EPOCH")" | gzip -n -9 > "$documents/changelog.gz"
@@ -29,7 +33,9 @@ size=$(find "$root/usr" -type f -printf '%s\n' | awk '{ n += int($1 / 1024) + 1 
 sed -e "s/@VERSION@/$3/" -e "s/@GLIBC@/$(needs)/" -e "s/@SIZE@/$size/" "$own/control" > "$root/DEBIAN/control"
 (cd "$root" && find usr -type f -print0 | sort -z | xargs -0 md5sum) > "$root/DEBIAN/md5sums"
 echo activate-noawait ldconfig > "$root/DEBIAN/triggers"
-echo "libcefindrato 0 cefindrato (>= $3)" > "$root/DEBIAN/shlibs"
+(cd "$root/usr/lib" && for library in lib*.so.0; do
+  echo "${library%.so.0} 0 cefindrato (>= $3)"
+done) > "$root/DEBIAN/shlibs"
 find "$root" -exec touch -h -d "@$SOURCE_DATE_EPOCH" {} +
 chmod 755 "$root"
 dpkg-deb --root-owner-group -Zxz --build "$root" "$4" > "$work/said"
