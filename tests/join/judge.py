@@ -4,7 +4,7 @@ judge.py JOIN_CHECK COUNT SEED
 
 Of random formulas and cubes over few variables: the text of each part is made here, and gets a receipt `refuted` where no assignment
 satisfies it, and else `satisfied`. The program must name the first part without one, and with all of them the formula must have no
-model. Then receipts that are wrong: one is left out, has another digest, or stands for another part or another formula. Of random
+model. Then receipts that are wrong: one is left out, has another digest, stands twice, or stands for another text or another formula. Of random
 graphs of receipts `carries`, with cycles: whether some path leads from the formula to a digest that is refuted. At the end texts that
 are no receipts, formulas or cubes.
 """
@@ -139,7 +139,8 @@ def split(tries, dice):
     tries.judged("receipts of parts", text, cube_text, dice.sample(receipts, len(receipts)), open_parts[0] if open_parts else None)
     if not open_parts:
         tries.same("a formula that is refuted", is_satisfiable(formula), False)
-        turned(tries, dice, text, cube_text, made, receipts)
+        mixed = [refuted(dimacs(clauses)) for _, clauses in parts([*formula, [1]], cubes)]
+        turned(tries, dice, text, cube_text, made, receipts, mixed)
 
 
 def first_without(made, receipts):
@@ -147,18 +148,20 @@ def first_without(made, receipts):
     return next((name for name, part, _ in made if refuted(part) not in receipts), None)
 
 
-def turned(tries, dice, text, cube_text, made, receipts):
+def turned(tries, dice, text, cube_text, made, receipts, mixed):
     at = dice.randrange(len(receipts))
-    name, part, _ = made[at]
+    _, part, _ = made[at]
     others = [it for it in receipts if it != receipts[at]]
-    tries.judged("a receipt is missing", text, cube_text, others, name if others.count(receipts[at]) == 0 else None)
+    tries.judged("a receipt is missing", text, cube_text, others, first_without(made, others))
     wrong = dice.choice("0123456789abcdef")
     places = [place for place in range(15, 79) if receipts[at][place] != wrong]
     place = dice.choice(places)
     changed = [*others, receipts[at][:place] + wrong + receipts[at][place + 1 :]]
     tries.judged("another digest", text, cube_text, changed, first_without(made, changed))
     tries.judged("a part can be satisfied", text, cube_text, [*others, satisfied(part)], first_without(made, others))
-    tries.judged("a receipt of the formula", text, cube_text, [*others, refuted(text)], first_without(made, [*others, refuted(text)]))
+    tries.judged("a receipt of the whole formula", text, cube_text, [*others, refuted(text)], first_without(made, [*others, refuted(text)]))
+    tries.judged("a receipt stands twice", text, cube_text, [*receipts, receipts[at]], None)
+    tries.judged("a receipt of another formula", text, cube_text, [*others, mixed[at]], first_without(made, others))
     turned_cube = part.replace("\n", "\nc\n", 1)
     tries.judged("a receipt of another text", text, cube_text, [*others, refuted(turned_cube)], first_without(made, others))
     chain = [*others, carries(part, "between"), carries("between", "end"), refuted("end")]
@@ -247,4 +250,5 @@ def main(program, count, seed):
     return min(tries.wrong, 1)
 
 
-sys.exit(main(*sys.argv[1:]))
+if __name__ == "__main__":
+    sys.exit(main(*sys.argv[1:]))

@@ -1,3 +1,4 @@
 pub mod Digesting
-pub mod Running
+pub mod PartLines
 pub mod Parting
+pub mod Running

@@ -1,9 +1,11 @@
 //! The verdicts on receipts.
-ghost use Rattle.std.specs.Prelude.{◌≡◌, length, IfOk, None};
+ghost use Rattle.std.specs.Prelude.{◌≡◌, ℕ, List, length, IfOk, None};
 ghost use Rattle.join_check.specs.Digests.{HasShown};
+ghost use Rattle.join_check.specs.Parts.{ArePartTexts};
 ghost use Rattle.join_check.specs.Verdicts.{IsCubesVerdict, IsFirstUnshown, IsTextVerdict};
 
 use crate::digests::ShownDigests;
+use crate::part_texts::PartTexts;
 use crate::parts::{first_unshown, is_part_shown};
 use crate::splitting::clauses_against;
 use crate::verdict::{Unshown, Verdict};
@@ -37,26 +39,28 @@ pub(crate) fn judge_cubes(
     ensures { IfOk result (IsCubesVerdict receipts.now formula.now cubes.now) }
 {
     let shown = ShownDigests::of(alloc, receipts)?;
-    match first_unshown(alloc, formula, cubes, &shown)? {
+    let mut texts = PartTexts::of(alloc, formula)?;
+    match first_unshown(alloc, &mut texts, cubes, &shown)? {
         Some(number) => Ok(Verdict::NotVerified(Unshown::Cube(number))),
-        None => judge_closing(alloc, formula, cubes, receipts, &shown),
+        None => judge_closing(alloc, &mut texts, cubes, receipts, &shown),
     }
 }
 
 /// Returns the verdict where the parts of all cubes are shown.
 fn judge_closing(
     alloc: Global,
-    formula: &CnfFormula,
+    texts: &mut PartTexts,
     cubes: &CnfFormula,
     receipts: &[Receipt],
     shown: &ShownDigests,
 ) -> Result<Verdict, AllocError>
-    ensures { IfOk result (λ verdict. HasShown receipts.now shown.now
-        → IsFirstUnshown receipts.now formula.now cubes.now None
-        → IsCubesVerdict receipts.now formula.now cubes.now verdict) }
+    ensures { IfOk result (λ verdict. (formula : List (List ℕ)) → ArePartTexts formula texts.old
+        → HasShown receipts.now shown.now
+        → IsFirstUnshown receipts.now formula cubes.now None
+        → IsCubesVerdict receipts.now formula cubes.now verdict) }
 {
     let closing = clauses_against(alloc, cubes)?;
-    if is_part_shown(alloc, formula, &closing, shown)? {
+    if is_part_shown(alloc, texts, &closing, shown)? {
         Ok(verified(receipts))
     } else {
         Ok(Verdict::NotVerified(Unshown::Closing))

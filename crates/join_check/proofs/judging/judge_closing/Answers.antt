@@ -4,8 +4,8 @@ use Rattle.join_check.proofs.Parting.{all_parts}
 use Rattle.join_check.proofs.judging.judge_closing.Goals as goal
 
 pub returns-then-branch : goal.returns-then-branch
-returns-then-branch c = λ all units. rw c.verified.ensures
-    (refl, all_parts (IsPartShown c.args.receipts.now c.args.formula.now) c.args.cubes.now units (rw c.in_ok-closing.ensures at (c.in_ok-is_part_shown.ensures.yes c.args.receipts.now all c.if-branch.true)))
+returns-then-branch c = λ formula are all units. rw c.verified.ensures
+    (refl, all_parts (IsPartShown c.args.receipts.now formula) c.args.cubes.now units (rw c.in_ok-closing.ensures at (c.in_ok-is_part_shown.ensures.yes formula c.args.receipts.now are all c.if-branch.true)))
 
 pub returns : goal.returns
-returns c = λ all units. (units, rw c.in_ok-closing.ensures at (c.in_ok-is_part_shown.ensures.no c.args.receipts.now all c.if-branch.false))
+returns c = λ formula are all units. (units, rw c.in_ok-closing.ensures at (c.in_ok-is_part_shown.ensures.no formula c.args.receipts.now are all c.if-branch.false))

@@ -7,34 +7,37 @@ use Rattle.join_check.proofs.parts.first_unshown.Goals as goal
 
 pub loop-cube-preserved : goal.loop-cube-preserved
 loop-cube-preserved c =
-    let so_far = c.loop-cube.invariant.so_far in
+    let invariant = c.loop-cube.invariant in
+    let so_far = invariant.so_far in
     let steps = c.in-Some.ensures.steps in
     record {
-      counted = omega (arith, c.loop-cube.invariant.counted, ap length steps);
+      counted = omega (arith, invariant.counted, ap length steps);
+      kept = λ formula are. c.is_part_shown.ensures.kept formula (invariant.kept formula are);
       so_far = (
         so_far.0 ++ c.in-Some.cube.now ∷ [],
         one_over c.args.cubes.now so_far.0 c.loop-cube.cube-iterator c.next.new.self c.in-Some.cube.now so_far.1 steps,
-        λ receipts all. All-push (λ other. IsPartShown receipts c.args.formula.now (units_of other)) so_far.0 c.in-Some.cube.now (so_far.2 receipts all)
-            (rw c.in_ok-units.ensures at (c.in_ok-is_part_shown.ensures.yes receipts all c.if-not-branch.false)),
+        λ formula receipts are all. All-push (λ other. IsPartShown receipts formula (units_of other)) so_far.0 c.in-Some.cube.now (so_far.2 formula receipts are all)
+            (rw c.in_ok-units.ensures at (c.in_ok-is_part_shown.ensures.yes formula receipts (invariant.kept formula are) all c.if-not-branch.false)),
       );
     }
 
-pub returns-then-not-branch : goal.returns-then-not-branch
-returns-then-not-branch c = λ receipts all.
-    let so_far = c.loop-cube.invariant.so_far in
+pub returns-then-not-branch-clause-found : goal.returns-then-not-branch-clause-found
+returns-then-not-branch-clause-found c = λ formula receipts are all.
+    let invariant = c.loop-cube.invariant in
+    let so_far = invariant.so_far in
     let steps = c.in-Some.ensures.steps in
     record {
       before = so_far.0;
       cube = c.in-Some.cube.now;
       rest = c.next.new.self;
       split = so_far.1 ∙ ap (λ (l : List (List ℕ)). so_far.0 ++ l) steps;
-      place = omega (arith, c.loop-cube.invariant.counted, ap length steps, c.len-count.ensures, ap length so_far.1, length-append so_far.0 c.loop-cube.cube-iterator);
-      shown = so_far.2 receipts all;
-      unshown = rw c.in_ok-units.ensures at (c.in_ok-is_part_shown.ensures.no receipts all c.if-not-branch.true);
+      place = omega (arith, invariant.counted, ap length steps, c.len-count.ensures, ap length so_far.1, length-append so_far.0 c.loop-cube.cube-iterator);
+      shown = so_far.2 formula receipts are all;
+      unshown = rw c.in_ok-units.ensures at (c.in_ok-is_part_shown.ensures.no formula receipts (invariant.kept formula are) all c.if-not-branch.true);
     }
 
-pub returns : goal.returns
-returns c = λ receipts all.
+pub returns-clause-found : goal.returns-clause-found
+returns-clause-found c = λ formula receipts are all.
     let so_far = c.loop-cube.invariant.so_far in
-    All-same (λ other. IsPartShown receipts c.args.formula.now (units_of other)) c.args.cubes.now so_far.0
-    (so_far.1 ∙ ap (λ (l : List (List ℕ)). so_far.0 ++ l) c.in-None.ensures.steps.0 ∙ append-nil so_far.0) (so_far.2 receipts all)
+    All-same (λ other. IsPartShown receipts formula (units_of other)) c.args.cubes.now so_far.0
+    (so_far.1 ∙ ap (λ (l : List (List ℕ)). so_far.0 ++ l) c.in-None.ensures.steps.0 ∙ append-nil so_far.0) (so_far.2 formula receipts are all)

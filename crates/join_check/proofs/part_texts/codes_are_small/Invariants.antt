@@ -1,6 +1,6 @@
 use Rattle.std.specs.Prelude.{All}
 use Rattle.sat_output.specs.Words.{IsCode}
-use Rattle.join_check.proofs.parts.codes_are_small.Given as goal
+use Rattle.join_check.proofs.part_texts.codes_are_small.Given as goal
 
 -- all are, if those of the clauses to come are
 abbrev pub invariant-loop-clause : goal.invariant-loop-clause

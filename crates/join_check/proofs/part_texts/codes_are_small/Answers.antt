@@ -1,7 +1,7 @@
 use Rattle.std.specs.Prelude.{All}
 use Rattle.std.proofs.lemmas.List.Elements.{All-cons, All-same}
 use Rattle.sat_output.specs.Words.{IsCode}
-use Rattle.join_check.proofs.parts.codes_are_small.Goals as goal
+use Rattle.join_check.proofs.part_texts.codes_are_small.Goals as goal
 
 pub loop-clause-preserved : goal.loop-clause-preserved
 loop-clause-preserved c = λ rest. c.loop-clause.invariant

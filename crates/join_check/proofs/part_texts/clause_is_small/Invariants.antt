@@ -1,7 +1,7 @@
 use Rattle.std.proofs.Common.{take}
 use Rattle.std.specs.Prelude.{All}
 use Rattle.sat_output.specs.Words.{IsCode}
-use Rattle.join_check.proofs.parts.clause_is_small.Given as goal
+use Rattle.join_check.proofs.part_texts.clause_is_small.Given as goal
 
 abbrev pub invariant-lits : goal.invariant-lits
 invariant-lits l = All IsCode (take l.lit-index l.clause)
