@@ -113,6 +113,20 @@ for words in '--no-deletions check two.icnf two.idrup' 'check --no-deletions two
   says 0 "$all" sessions $words
 done
 says 0 "$all" sessions check two.icnf two.lidrup
+# As CaDiCaL writes them: without a header, which the name stands for.
+for kind in idrup lidrup; do
+  sed 1d "two.$kind" > "plain.$kind"
+  gzip -k "plain.$kind"
+  says 0 "$all" sessions check two.icnf "plain.$kind"
+  says 0 "$all" sessions check two.icnf "plain.$kind.gz"
+done
+cp plain.lidrup plain
+says 1 'proof: line 1: no header, and the name does not end in .idrup or .lidrup' sessions check two.icnf plain
+sed '1s/^i/x/' plain.lidrup > wrong.lidrup
+says 1 "$(for query in 1:4 2:7 3:11 4:13; do
+  echo "query ${query%:*} of line ${query#*:}: no answer to it: proof: line 1: not expected here"
+done)
+4 of 4 answers are not shown" sessions check two.icnf wrong.lidrup
 
 # The formula is the one of the worked rows in crates/session_rules/specs/Rows.antt.
 says 0 '' sessions write two.icnf two.idrup made
@@ -141,9 +155,15 @@ says 1 $'query 2 of line 7: its core is more than what was told in line 9 (proof
 edit two.icnf 's/^f 1 2 0/f 1 2 3 0/'
 says 1 $'query 2 of line 7: not all that was told in line 9 was assumed (proof: line 8)\n1 of 4 answers are not shown' \
   sessions check changed.icnf two.idrup
+for values in 2 '-2 3 -3'; do
+  edit two.icnf "s/^v -2 0/v $values 0/"
+  says 1 $'query 1 of line 4: its model does not have all that was told in line 6 (proof: line 5)\n1 of 4 answers are not shown' \
+    sessions check changed.icnf two.idrup
+done
+# (a variable that the solver does not know has the value that was told)
+edit two.icnf 's/^v -2 0/v -2 -3 0/'
+says 0 "$all" sessions check changed.icnf two.idrup
 edit two.icnf 's/^v -2 0/v 2 0/'
-says 1 $'query 1 of line 4: its model does not have all that was told in line 6 (proof: line 5)\n1 of 4 answers are not shown' \
-  sessions check changed.icnf two.idrup
 edit two.idrup 's/^m 1 -2 0/m 1 2 0/'
 says 1 $'query 1 of line 4: its model does not satisfy line 3\n1 of 4 answers are not shown' \
   sessions check changed.icnf changed.idrup
@@ -258,6 +278,10 @@ printf 'p idrup\ni\x80\x01\xd9\x04\0i\xd8\x04\0q\x81\x01\0s UNSATISFIABLE\nu\x81
 says 0 "$many" sessions check long.icnf long.idrup
 printf 'p lidrup\ni\x80\x01\x80\x01\xd9\x04\0i\x05\xd8\x04\0q\x81\x01\0sUNSATISFIABLEu\x81\x01\0\x05\x80\x01\0i\x06\x81\x01\0' > long.lidrup
 says 0 "$many" sessions check long.icnf long.lidrup
+for kind in idrup lidrup; do
+  sed -i 1d "long.$kind"
+  says 0 "$many" sessions check long.icnf "long.$kind"
+done
 # malformed LINE BYTES: the proof ends with these in place of its conclusion, and they are malformed
 malformed() {
   printf 'p idrup\ni\x80\x01\xd9\x04\0i\xd8\x04\0q\x81\x01\0sUNSATISFIABLE%b' "$1" > long.idrup
@@ -333,10 +357,10 @@ says 0 'all answers are shown: 2 satisfiable, 4 unsatisfiable, 2 unknown, in 2 s
 says 0 'all answers are shown: 4 satisfiable, 8 unsatisfiable, 4 unknown, in 4 sessions' sessions check folder --no-deletions folder/
 says 2 'cannot open made/sessions.index: No such file or directory' sessions check folder made
 sed -i 's/^v -2 0/v 2 0/' folder/one.icnf
-sed -i 's/^p/q/' folder/two.lidrup
+sed -i 's/^p lidrup/p frat/' folder/two.lidrup
 says 1 'folder/one.icnf: query 1 of line 4: its model does not have all that was told in line 6 (proof: line 5)
 folder/one.icnf: 1 of 4 answers are not shown
-folder/two.icnf: proof: line 1: no header
+folder/two.icnf: proof: line 1: the header is neither p idrup nor p lidrup
 2 of 2 sessions have answers that are not shown' sessions check folder
 
 # refused FAULT EDIT: a copy of the folder after an edit in it is refused, and nothing is said on standard output

@@ -1,22 +1,32 @@
 -- What an application asked and was answered, and what is said of it.
---     Asked      a query: the clauses that were given before it, what it assumed, and its answer
+--     Asked      a query: the clauses that were given before it, what it assumed, its answer, and what was told of it
 --     interaction_of ls      what the lines of a text ask and answer
 --     IsShown q r      the report has the answer of the query, which is true where it is shown
 use Rattle.std.specs.Prelude.{◌≡◌, ℕ, List, [], ◌∷◌, ◌++◌, Option, Some, None}
 use Rattle.session_rules.specs.Sessions.{Fails, Satisfies}
 use Rattle.session_text.specs.declared.line.LineKind.{LineKind}
-use Rattle.session_text.specs.declared.line.LineKind.TheVariants.{Answer, Clause, Core, Deletion, Lemma, Model, Query, Trail, Weakening}
+use Rattle.session_text.specs.declared.line.LineKind.TheVariants.{Answer, Clause, Core, Deletion, Failed, Lemma, Model, Query, Several, Trail, Values, Weakening}
 use Rattle.session_text.specs.declared.line.Status.{Status}
 use Rattle.session_text.specs.declared.line.Status.TheVariants.{Satisfiable, Unknown, Unsatisfiable}
 use Rattle.session_text.specs.Texts.{Line}
 use Rattle.session_check.specs.declared.report.Reason.{Reason}
 use Rattle.session_check.specs.declared.report.Report.{Report}
+use Rattle.session_check.specs.declared.session.Times.{Times}
+use Rattle.session_check.specs.declared.session.Times.TheVariants.{Again, Never, Once}
 
--- a query: the clauses that were given before it, what it assumed, and its answer
+-- once more
+abbrev pub once_more : Times → Times
+once_more Never = Once
+once_more Once = Again
+once_more Again = Again
+
+-- a query: the clauses that were given before it, what it assumed, its answer, and the values or cores that were told of it, how often and one list behind the other
 pub record Asked : Type 0 where
   pub given : List (List ℕ)
   pub assumed : List ℕ
   pub status : Status
+  pub told : List ℕ
+  pub times : Times
 
 -- the clauses that were given so far, what the query assumed that has no answer yet, and the answered queries in their order
 pub record Interaction : Type 0 where
@@ -30,8 +40,19 @@ answer_to None a status = a
 answer_to (Some assumed) a status = record {
   given = a.given;
   unanswered = None;
-  queries = a.queries ++ record { given = a.given; assumed = assumed; status = status } ∷ [];
+  queries = a.queries
+      ++ record { given = a.given; assumed = assumed; status = status; told = []; times = Never } ∷ [];
 }
+
+-- these values or this core are told of it
+abbrev pub hear : Asked → List ℕ → Asked
+hear q lits = record q { told = q.told ++ lits; times = once_more q.times }
+
+-- of the last query
+abbrev pub hear_last : List Asked → List ℕ → List Asked
+hear_last [] lits = []
+hear_last (q ∷ []) lits = hear q lits ∷ []
+hear_last (q ∷ r ∷ qs) lits = q ∷ hear_last (r ∷ qs) lits
 
 -- a line of this kind, with these literals
 abbrev pub interact : Interaction → LineKind → List ℕ → Interaction
@@ -44,6 +65,9 @@ interact a (Answer status) lits = answer_to a.unanswered a status
 interact a Model lits = a
 interact a Core lits = a
 interact a Trail lits = a
+interact a (Several count) lits = a
+interact a Values lits = record a { queries = hear_last a.queries lits }
+interact a Failed lits = record a { queries = hear_last a.queries lits }
 
 -- one line
 abbrev pub with_line : Interaction → Line → Interaction
@@ -60,10 +84,16 @@ interaction_of ls = with_lines (record { given = []; unanswered = None; queries 
 
 -- ---- reports
 
--- the answer is true where it is shown: some assignment satisfies all, or none does
+-- some core fails, that which was told if one was
+abbrev pub FailsAsTold : Times → List (List ℕ) → List ℕ → List ℕ → Type 0
+FailsAsTold Never given assumed told = (core : List ℕ) × Fails given assumed core
+FailsAsTold Once given assumed told = Fails given assumed told
+FailsAsTold Again given assumed told = ⊥
+
+-- the answer is true where it is shown: some assignment satisfies all, with all values that were told, or none does
 abbrev pub IsAnswer : Asked → Status → Option Reason → Type 0
-IsAnswer q Satisfiable None = (values : List ℕ) × Satisfies q.given q.assumed values
-IsAnswer q Unsatisfiable None = (core : List ℕ) × Fails q.given q.assumed core
+IsAnswer q Satisfiable None = (values : List ℕ) × Satisfies q.given q.assumed (q.told ++ values)
+IsAnswer q Unsatisfiable None = FailsAsTold q.times q.given q.assumed q.told
 IsAnswer q Unknown None = Unit {0}
 IsAnswer q status (Some reason) = Unit {0}
 

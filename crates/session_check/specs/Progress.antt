@@ -2,55 +2,58 @@
 --     Progress, progress_of s      where a session stands
 --     Takes kind c p r p'      a line of this kind brings a session from p to p', with a report or none
 --     IsJudged ls rs      these are the reports on the lines of a text, by the rules of `session_checker`
-use Rattle.std.specs.Prelude.{◌≡◌, ℕ, ◌==◌, Bool, true, false, if◌then◌else◌, List, [], ◌∷◌, ◌++◌, Option, Some, None}
+use Rattle.std.specs.Prelude.{◌≡◌, ℕ, ◌-◌, ◌<◌, ◌==◌, Bool, true, false, if◌then◌else◌, List, [], ◌∷◌, ◌++◌, Option, Some, None}
 use Rattle.sat_rules.specs.Clauses.{has}
 use Rattle.session_checker.specs.Causes.{refusal_of}
 use Rattle.session_checker.specs.Held.{given_by, named_by}
 use Rattle.session_checker.specs.Refusals.{Refusal, core_cause, lemma_cause, model_cause}
 use Rattle.session_text.specs.declared.line.LineKind.{LineKind}
-use Rattle.session_text.specs.declared.line.LineKind.TheVariants.{Answer, Clause, Core, Deletion, Lemma, Model, Query, Trail, Weakening}
+use Rattle.session_text.specs.declared.line.LineKind.TheVariants.{Answer, Clause, Core, Deletion, Failed, Lemma, Model, Query, Several, Trail, Values, Weakening}
 use Rattle.session_text.specs.declared.line.Status.{Status}
 use Rattle.session_text.specs.declared.line.Status.TheVariants.{Satisfiable, Unknown, Unsatisfiable}
 use Rattle.session_text.specs.Content.{Content}
 use Rattle.session_text.specs.Texts.{Line}
-use Rattle.session_check.specs.Interactions.{IsShown}
+use Rattle.session_check.specs.Interactions.{IsShown, once_more}
 use Rattle.session_check.specs.declared.report.Reason.{Reason}
 use Rattle.session_check.specs.declared.report.Reason.TheVariants as reasons
 use Rattle.session_check.specs.declared.report.Report.{Report}
 use Rattle.session_check.specs.declared.session.Session.{Session}
+use Rattle.session_check.specs.declared.session.Times.{Times}
+use Rattle.session_check.specs.declared.session.Times.TheVariants.{Again, Never, Once}
 use Rattle.session_check.specs.declared.session.Turn.{Turn}
 use Rattle.session_check.specs.declared.session.Turn.TheVariants as turns
 
--- the last query has its report, or there is none;  it has no answer yet;  it has this one, and no report
+-- the last query has its report, or there is none;  it has no answer yet;  it has this one, of which so much was told, and no report
 pub data Pending : Type 0 where
   settled : Pending
   asked : (assumed : List ℕ) → Pending
-  answered : (assumed : List ℕ) → (status : Status) → Pending
+  answered : (assumed : List ℕ) → (status : Status) → (told : List ℕ) → (times : Times) → Pending
 
--- the clauses that were given, the clause of each id, whether some lemma did not follow, and where the last query stands
+-- the clauses that were given, the clause of each id, whether some lemma did not follow, where the last query stands, and how many more cores of it are passed over
 pub record Progress : Type 0 where
   pub given : List (List ℕ)
   pub named : ℕ → Option (List ℕ)
   pub broken : Bool
   pub pending : Pending
+  pub more : ℕ
 
 -- before the first line
 abbrev pub IsFresh : Progress → Type 0
 IsFresh p = (p.given ≡ []) × ((k : ℕ) → p.named k ≡ None) × (p.broken ≡ false)
-    × (p.pending ≡ settled)
+    × (p.pending ≡ settled) × (p.more ≡ 0)
 
 -- the last query has its report
 abbrev pub ended : Progress → Progress
 ended p = record p { pending = settled }
 
-abbrev pub pending_in : Turn → List ℕ → Pending
-pending_in turns.Idle assumed = settled
-pending_in turns.Asked assumed = asked assumed
-pending_in (turns.Answered status) assumed = answered assumed status
+abbrev pub pending_in : Turn → (assumed told : List ℕ) → Times → Pending
+pending_in turns.Idle assumed told times = settled
+pending_in turns.Asked assumed told times = asked assumed
+pending_in (turns.Answered status) assumed told times = answered assumed status told times
 
 -- where the last query of a session stands
 abbrev pub pending_of : Session → Pending
-pending_of s = pending_in s.turn s.assumed.items
+pending_of s = pending_in s.turn s.assumed.items s.told.items s.times
 
 -- it has no answer yet
 abbrev pub IsUnanswered : Pending → Type 0
@@ -63,6 +66,7 @@ progress_of s = record {
   named = named_by s.checker;
   broken = s.broken;
   pending = pending_of s;
+  more = s.more;
 }
 
 -- nothing is said, and all stays
@@ -72,8 +76,8 @@ Stays p r after = (r ≡ None) × (after ≡ p)
 -- the last query is over: if it has no report yet, it was answered so, and has no conclusion
 abbrev pub Closes : Pending → Option Report → Type 0
 Closes pending None = pending ≡ settled
-Closes pending (Some r) = (assumed : List ℕ) × (pending ≡ answered assumed r.status)
-    × (r.reason ≡ Some reasons.NoConclusion)
+Closes pending (Some r) = (assumed : List ℕ) × (told : List ℕ) × (times : Times)
+    × (pending ≡ answered assumed r.status told times) × (r.reason ≡ Some reasons.NoConclusion)
 
 -- the id names these literals now, and all others what they did
 abbrev pub Adds : (ℕ → Option (List ℕ)) → ℕ → List ℕ → (ℕ → Option (List ℕ)) → Type 0
@@ -83,10 +87,11 @@ Adds f id lits g = (k : ℕ) → g k ≡ (if k == id then Some lits else f k)
 abbrev pub Gives : ℕ → List ℕ → Progress → Option Report → Progress → Type 0
 Gives id lits p r after = Closes p.pending r × (after.given ≡ p.given ++ lits ∷ [])
     × Adds p.named id lits after.named × (after.broken ≡ p.broken) × (after.pending ≡ settled)
+    × (after.more ≡ 0)
 
 -- or a query is asked
 abbrev pub Asks : List ℕ → Progress → Option Report → Progress → Type 0
-Asks lits p r after = Closes p.pending r × (after ≡ record p { pending = asked lits })
+Asks lits p r after = Closes p.pending r × (after ≡ record p { pending = asked lits; more = 0 })
 
 -- a lemma is added; or its hints do not show it, for this cause, and from then on no core is shown
 abbrev pub DerivesBy : Option Refusal → ℕ → List ℕ → Progress → Progress → Type 0
@@ -96,13 +101,13 @@ DerivesBy (Some cause) id lits p after =
 
 abbrev pub Derives : ℕ → List ℕ → List ℕ → Progress → Option Report → Progress → Type 0
 Derives id lits ids p r after = (r ≡ None) × (after.given ≡ p.given) × (after.pending ≡ p.pending)
-    × DerivesBy (lemma_cause p.named id lits ids) id lits p after
+    × DerivesBy (lemma_cause p.named id lits ids) id lits p after × (after.more ≡ p.more)
 
 -- clauses are deleted
 abbrev pub Deletes : List ℕ → Progress → Option Report → Progress → Type 0
 Deletes ids p r after = (r ≡ None) × (after.given ≡ p.given)
     × ((k : ℕ) → after.named k ≡ (if has k ids then None else p.named k))
-    × (after.broken ≡ p.broken) × (after.pending ≡ p.pending)
+    × (after.broken ≡ p.broken) × (after.pending ≡ p.pending) × (after.more ≡ p.more)
 
 -- what is said of a query at once: that the solver gave up
 abbrev pub answer_report : Status → Option Report
@@ -112,8 +117,8 @@ answer_report Unknown = Some (record { status = Unknown; reason = None })
 
 -- where it stands after its answer
 abbrev pub pending_after : List ℕ → Status → Pending
-pending_after assumed Satisfiable = answered assumed Satisfiable
-pending_after assumed Unsatisfiable = answered assumed Unsatisfiable
+pending_after assumed Satisfiable = answered assumed Satisfiable [] Never
+pending_after assumed Unsatisfiable = answered assumed Unsatisfiable [] Never
 pending_after assumed Unknown = settled
 
 -- the last query, which has no answer yet, gets this one
@@ -126,26 +131,69 @@ abbrev pub IsReason : Option Refusal → Option Reason → Type 0
 IsReason cause None = cause ≡ None
 IsReason cause (Some reasons.NoConclusion) = ⊥
 IsReason cause (Some reasons.Lemma) = ⊥
+IsReason cause (Some reasons.Told) = ⊥
+IsReason cause (Some reasons.SeveralTold) = ⊥
 IsReason cause (Some (reasons.Refused c)) = cause ≡ Some (refusal_of c)
 
--- of a core, where some lemma did not follow or none did
-abbrev pub IsCoreReason : Bool → Option Refusal → Option Reason → Type 0
-IsCoreReason true cause reason = reason ≡ Some reasons.Lemma
-IsCoreReason false cause reason = IsReason cause reason
+-- why what was told is not shown: the cause of the conclusion itself, or it has none
+abbrev pub IsOwnReason : Option Refusal → Option Reason → Type 0
+IsOwnReason None reason = reason ≡ Some reasons.Told
+IsOwnReason (Some cause) reason = IsReason (Some cause) reason
+
+-- by the cause with what was told, and that of the conclusion itself
+abbrev pub IsToldReason : Option Refusal → Option Refusal → Option Reason → Type 0
+IsToldReason None own reason = reason ≡ None
+IsToldReason (Some cause) own reason = IsOwnReason own reason
+
+-- of a core, where some lemma did not follow or none did, and a core was told so often
+abbrev pub IsCoreReason : Bool → Times → Option Refusal → Option Refusal → Option Reason → Type 0
+IsCoreReason true times as_told own reason = reason ≡ Some reasons.Lemma
+IsCoreReason false Never as_told own reason = IsReason own reason
+IsCoreReason false Once as_told own reason = IsToldReason as_told own reason
+IsCoreReason false Again as_told own reason = reason ≡ Some reasons.SeveralTold
+
+-- values or a core are told of the last query, which was answered so
+abbrev pub Hears : Status → List ℕ → Progress → Option Report → Progress → Type 0
+Hears status lits p r after = (assumed : List ℕ) × (told : List ℕ) × (times : Times)
+    × (p.pending ≡ answered assumed status told times) × (r ≡ None)
+    × (after ≡ record p { pending = answered assumed status (told ++ lits) (once_more times) })
+
+-- this many cores follow of the last query
+abbrev pub Announces : ℕ → Progress → Option Report → Progress → Type 0
+Announces n p r after = (assumed : List ℕ) × (told : List ℕ) × (times : Times)
+    × (p.pending ≡ answered assumed Unsatisfiable told times) × (r ≡ None)
+    × (after ≡ record p { more = n - 1 })
 
 -- the last query, which was answered so, gets its report, by a model
 abbrev pub Models : List ℕ → Progress → Option Report → Progress → Type 0
 Models lits p None after = ⊥
-Models lits p (Some r) after = (assumed : List ℕ) × (p.pending ≡ answered assumed Satisfiable)
-    × (after ≡ ended p) × IsReason (model_cause p.given assumed lits) r.reason
-    × IsShown (record { given = p.given; assumed = assumed; status = Satisfiable }) r
+Models lits p (Some r) after = (assumed : List ℕ) × (told : List ℕ) × (times : Times)
+    × (p.pending ≡ answered assumed Satisfiable told times) × (after ≡ ended p)
+    × IsToldReason (model_cause p.given assumed (told ++ lits)) (model_cause p.given assumed lits)
+    r.reason
+    × IsShown (record {
+      given = p.given;
+      assumed = assumed;
+      status = Satisfiable;
+      told = told;
+      times = times;
+    }) r
 
--- or by a core
+-- or by a core; of several that were announced, those behind the first are passed over
 abbrev pub Cores : List ℕ → List ℕ → Progress → Option Report → Progress → Type 0
-Cores lits ids p None after = ⊥
-Cores lits ids p (Some r) after = (assumed : List ℕ) × (p.pending ≡ answered assumed Unsatisfiable)
-    × (after ≡ ended p) × IsCoreReason p.broken (core_cause p.named assumed lits ids) r.reason
-    × IsShown (record { given = p.given; assumed = assumed; status = Unsatisfiable }) r
+Cores lits ids p None after = (p.pending ≡ settled) × (0 < p.more)
+    × (after ≡ record p { more = p.more - 1 })
+Cores lits ids p (Some r) after = (assumed : List ℕ) × (told : List ℕ) × (times : Times)
+    × (p.pending ≡ answered assumed Unsatisfiable told times) × (after ≡ ended p)
+    × IsCoreReason p.broken times (core_cause p.named assumed told ids)
+    (core_cause p.named assumed lits ids) r.reason
+    × IsShown (record {
+      given = p.given;
+      assumed = assumed;
+      status = Unsatisfiable;
+      told = told;
+      times = times;
+    }) r
 
 -- a line of this kind
 abbrev pub Takes : LineKind → Content → Progress → Option Report → Progress → Type 0
@@ -158,6 +206,9 @@ Takes (Answer status) c p r after = Answers status p r after
 Takes Model c p r after = Models c.lits p r after
 Takes Core c p r after = Cores c.lits c.ids p r after
 Takes Trail c p r after = Stays p r after
+Takes (Several count) c p r after = Announces count p r after
+Takes Values c p r after = Hears Satisfiable c.lits p r after
+Takes Failed c p r after = Hears Unsatisfiable c.lits p r after
 
 -- ---- a whole session
 

@@ -6,7 +6,7 @@ use Rattle.session_checker.specs.declared.fault.SessionCause.TheVariants.{BothSi
 use Rattle.session_text.specs.declared.line.Status.{Status}
 use Rattle.session_text.specs.declared.line.Status.TheVariants.{Satisfiable, Unknown, Unsatisfiable}
 use Rattle.session_check.specs.declared.report.Reason.{Reason}
-use Rattle.session_check.specs.declared.report.Reason.TheVariants.{Lemma, NoConclusion, Refused}
+use Rattle.session_check.specs.declared.report.Reason.TheVariants.{Lemma, NoConclusion, Refused, SeveralTold, Told}
 use Rattle.session_check.specs.declared.report.Report.{Report}
 
 -- the word of an answer
@@ -30,6 +30,8 @@ cause_text (MissesClause n) = codes "the model has no literal of a clause"
 abbrev pub reason_text : Reason → List ℕ
 reason_text NoConclusion = codes "the proof has no conclusion of it"
 reason_text Lemma = codes "a lemma before it does not follow"
+reason_text Told = codes "the proof does not show what was reported"
+reason_text SeveralTold = codes "several cores were reported"
 reason_text (Refused cause) = cause_text cause
 
 -- what follows an answer that is shown: nothing where the solver gave up

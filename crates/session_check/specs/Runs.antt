@@ -1,15 +1,14 @@
 -- What a run over a session writes and returns.
 --     Told, told rs      what is written of some reports: the counts and the lines
---     ShowsAll known rs, Shows known rs      these are true reports of all queries of a text;  of the first ones
+--     ShowsAll known rs, Shows known rs      these are true reports of all queries of a session;  of the first ones
 --     IsRun known before after result      what a run is
-use Rattle.std.specs.Prelude.{◌≡◌, ℕ, List, [], ◌∷◌, ◌++◌, Option, Some, None, Result, Ok, Err, IfSome}
+use Rattle.std.specs.Prelude.{◌≡◌, ℕ, List, [], ◌∷◌, ◌++◌, Option, Some, None, Result, Ok, Err}
 use Rattle.std.specs.Io.KnownBytes.{Appends}
 use Rattle.whole_writes.specs.Beginnings.{AppendsBeginning}
-use Rattle.session_text.specs.Texts.{Ended, Faulty, Line, outcome_of}
-use Rattle.session_text.specs.declared.fault.SessionTextFault.{SessionTextFault}
-use Rattle.session_text.specs.declared.fault.SessionTextFault.TheVariants as texts
+use Rattle.session_text.specs.Texts.{Line}
 use Rattle.session_check.specs.Counts.{counted, last_line, no_counts}
 use Rattle.session_check.specs.Interactions.{AllShown, Asked, Interaction, interaction_of}
+use Rattle.session_check.specs.Lines.{Begin, BeforeFault, LinesBy, Make, Texts}
 use Rattle.session_check.specs.Progress.{Closes, IsJudged, IsUnanswered, Progress}
 use Rattle.session_check.specs.Reports.{report_line}
 use Rattle.session_check.specs.declared.counts.Counts.{Counts}
@@ -40,17 +39,17 @@ tell_all t (r ∷ rs) = tell_all (tell t r) rs
 abbrev pub told : List Report → Told
 told rs = tell_all (record { counts = no_counts; text = [] }) rs
 
--- the text has no fault, each query is answered, and each has its report, by the rules, which is true
-abbrev pub ShowsAll : Option (List ℕ) → List Report → Type 0
-ShowsAll known rs = IfSome known (λ text. (lines : List Line) × (outcome_of text ≡ (lines, Ended))
-    × ((interaction_of lines).unanswered ≡ None) × AllShown (interaction_of lines).queries rs
-    × IsJudged lines rs)
+-- the texts have no fault, each query is answered, and each has its report, by the rules, which is true
+abbrev pub ShowsAll : Texts → List Report → Type 0
+ShowsAll known rs = (told : List Line) × (lines : List Line) × LinesBy Make Make known told lines
+    × ((interaction_of told).unanswered ≡ None) × AllShown (interaction_of told).queries rs
+    × IsJudged lines rs
 
 -- so have these, but the last query has no answer
-abbrev pub LeavesOne : Option (List ℕ) → List Report → Type 0
-LeavesOne known rs = IfSome known (λ text. (lines : List Line) × (outcome_of text ≡ (lines, Ended))
-    × ((assumed : List ℕ) × ((interaction_of lines).unanswered ≡ Some assumed))
-    × AllShown (interaction_of lines).queries rs)
+abbrev pub LeavesOne : Texts → List Report → Type 0
+LeavesOne known rs = (told : List Line) × (lines : List Line) × LinesBy Make Make known told lines
+    × ((assumed : List ℕ) × ((interaction_of told).unanswered ≡ Some assumed))
+    × AllShown (interaction_of told).queries rs
 
 -- one, or none
 abbrev pub listed : Option Asked → List Asked
@@ -64,40 +63,45 @@ pub record ShowsBut (a : Interaction) (rs : List Report) : Type 0 where
   pub queries : a.queries ≡ reported ++ listed unreported
   pub shown : AllShown reported rs
 
--- so is it with the first lines of the text
-abbrev pub Shows : Option (List ℕ) → List Report → Type 0
-Shows known rs = IfSome known (λ text. (lines : List Line) × (more : List Line)
-    × ((outcome_of text).0 ≡ lines ++ more) × ShowsBut (interaction_of lines) rs)
+-- so is it with the first lines of the texts
+abbrev pub Shows : Texts → List Report → Type 0
+Shows known rs = (told : List Line) × (lines : List Line) × LinesBy Begin Begin known told lines
+    × ShowsBut (interaction_of told) rs
 
--- or with all lines before its fault
-abbrev pub ShowsUpTo : Option (List ℕ) → SessionTextFault → List Report → Type 0
-ShowsUpTo known (texts.Read e) rs = Shows known rs
-ShowsUpTo known (texts.Wrong line kind) rs = IfSome known (λ text. (lines : List Line)
-    × (outcome_of text ≡ (lines, Faulty line kind)) × ShowsBut (interaction_of lines) rs)
-ShowsUpTo known texts.OutOfMemory rs = Shows known rs
+-- or with all lines before a fault
+abbrev pub ShowsBefore : RunFault → Texts → List Report → Type 0
+ShowsBefore fault known rs = (told : List Line) × (lines : List Line) × BeforeFault fault known told lines
+    × ShowsBut (interaction_of told) rs
 
 -- a run that was cut off: among the queries, or at the last line
-pub data IsCut (known before after : Option (List ℕ)) : Type 0 where
+pub data IsCut (known : Texts) (before after : Option (List ℕ)) : Type 0 where
   among : (rs : List Report) → Shows known rs → AppendsBeginning before after (told rs).text →
       IsCut known before after
   at_last : (rs : List Report) → ShowsAll known rs →
       AppendsBeginning before after ((told rs).text ++ last_line (told rs).counts) →
       IsCut known before after
 
--- what an error leaves: the lines of the queries before it, or a beginning of what was to be written
-abbrev pub Leaves : Option (List ℕ) → Option (List ℕ) → Option (List ℕ) → RunFault → Type 0
-Leaves known before after (faults.Proof fault) =
-    (rs : List Report) × ShowsUpTo known fault rs × Appends before after (told rs).text
+-- what a fault of a text or of a line leaves: the lines of the queries before it
+abbrev pub LeavesLines : RunFault → Texts → Option (List ℕ) → Option (List ℕ) → Type 0
+LeavesLines fault known before after =
+    (rs : List Report) × ShowsBefore fault known rs × Appends before after (told rs).text
+
+-- what an error leaves: these, or a beginning of what was to be written
+abbrev pub Leaves : Texts → Option (List ℕ) → Option (List ℕ) → RunFault → Type 0
+Leaves known before after (faults.Interaction fault) =
+    LeavesLines (faults.Interaction fault) known before after
+Leaves known before after (faults.Proof fault) = LeavesLines (faults.Proof fault) known before after
 Leaves known before after (faults.Line line cause) =
-    (rs : List Report) × Shows known rs × Appends before after (told rs).text
+    LeavesLines (faults.Line line cause) known before after
+Leaves known before after (faults.Unproved line) =
+    LeavesLines (faults.Unproved line) known before after
 Leaves known before after (faults.NoAnswer line) =
     (rs : List Report) × LeavesOne known rs × Appends before after (told rs).text
 Leaves known before after faults.OutOfMemory = IsCut known before after
 Leaves known before after (faults.Write e) = IsCut known before after
 
 -- a run that has ended wrote the line of each query and the last one
-abbrev pub IsRun : Option (List ℕ) → Option (List ℕ) → Option (List ℕ) →
-    Result Counts RunFault → Type 0
+abbrev pub IsRun : Texts → Option (List ℕ) → Option (List ℕ) → Result Counts RunFault → Type 0
 IsRun known before after (Ok counts) = (rs : List Report) × ShowsAll known rs
     × ((told rs).counts ≡ counts)
     × Appends before after ((told rs).text ++ last_line counts)
@@ -112,9 +116,11 @@ stop_fault stops.OutOfMemory line = faults.OutOfMemory
 
 -- memory ran out, or a write failed, and this is so
 abbrev pub CutsOff : Type 0 → RunFault → Type 0
+CutsOff part (faults.Interaction fault) = ⊥
 CutsOff part (faults.Proof fault) = ⊥
 CutsOff part (faults.Line line cause) = ⊥
 CutsOff part (faults.NoAnswer line) = ⊥
+CutsOff part (faults.Unproved line) = ⊥
 CutsOff part faults.OutOfMemory = part
 CutsOff part (faults.Write e) = part
 
@@ -140,9 +146,11 @@ pub data EndsPart (p : Progress) (old : Counts) (before after : Option (List ℕ
 
 -- the last query has no answer, or the end was cut off
 abbrev pub BreaksOff : Progress → Counts → Option (List ℕ) → Option (List ℕ) → RunFault → Type 0
+BreaksOff p old before after (faults.Interaction fault) = ⊥
 BreaksOff p old before after (faults.Proof fault) = ⊥
 BreaksOff p old before after (faults.Line line cause) = ⊥
 BreaksOff p old before after (faults.NoAnswer line) = IsUnanswered p.pending × (after ≡ before)
+BreaksOff p old before after (faults.Unproved line) = ⊥
 BreaksOff p old before after faults.OutOfMemory = EndsPart p old before after
 BreaksOff p old before after (faults.Write e) = EndsPart p old before after
 

@@ -18,20 +18,33 @@ pub enum LineCause {
     /// or a query after one without an answer.
     #[error("not expected here")]
     Misplaced,
+    /// It is a clause, a query or an answer, and the next one of the interaction is another, or
+    /// there is none.
+    #[error("the interaction does not have it here")]
+    Untold,
+    /// The interaction reports values or a core behind it, and the last answer is another.
+    #[error("the interaction reports something else than what was answered")]
+    Report,
 }
 
 /// Why a run was not brought to its end.
 #[derive(Debug, Drop, Error)]
 pub enum RunFault {
-    /// The text was not read whole.
+    /// The interaction was not read whole.
+    #[error("interaction: {0}")]
+    Interaction(SessionTextFault),
+    /// The proof was not read whole.
     #[error("proof: {0}")]
     Proof(SessionTextFault),
-    /// A line ends the session; lines count from 1.
+    /// A line of the proof ends the session; lines count from 1.
     #[error("proof: line {line}: {cause}")]
     Line { line: u64, cause: LineCause },
-    /// The text ends after a query without an answer; this is its last line.
+    /// The proof ends after a query without an answer; this is its last line.
     #[error("proof: line {line}: the last query has no answer")]
     NoAnswer { line: u64 },
+    /// The proof ends before this line of the interaction.
+    #[error("interaction: line {line}: the proof ends before it")]
+    Unproved { line: u64 },
     /// There was no memory for a clause or an answer.
     #[error("out of memory")]
     OutOfMemory,

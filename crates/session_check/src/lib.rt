@@ -4,6 +4,8 @@
 
 mod counts;
 mod fault;
+pub mod laws;
+mod lines;
 mod report;
 mod run;
 mod session;
@@ -11,5 +13,5 @@ mod session;
 pub use counts::Counts;
 pub use fault::{LineCause, RunFault};
 pub use report::{Reason, Report};
-pub use run::check_alone;
+pub use run::{check_alone, check_session};
 pub use verdicts::exit_status;

@@ -14,6 +14,10 @@ pub enum Reason {
     NoConclusion,
     /// A lemma before it does not follow.
     Lemma,
+    /// The model or the core is accepted, but it does not show what the application was told.
+    Told,
+    /// The application was told several cores.
+    SeveralTold,
     /// The model or the core is rejected.
     Refused(SessionCause),
 }
@@ -70,6 +74,8 @@ fn reason_text(reason: Reason) -> &'static [u8]
     match reason {
         Reason::NoConclusion => b"the proof has no conclusion of it",
         Reason::Lemma => b"a lemma before it does not follow",
+        Reason::Told => b"the proof does not show what was reported",
+        Reason::SeveralTold => b"several cores were reported",
         Reason::Refused(cause) => cause_text(cause),
     }
 }

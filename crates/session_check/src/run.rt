@@ -1,17 +1,19 @@
 //! A run over a whole session.
-ghost use Rattle.std.specs.Prelude.{◌≡◌, IfErr, OnOk};
+ghost use Rattle.std.specs.Prelude.{◌≡◌, [], IfErr, OnOk};
 ghost use Rattle.std.specs.Io.KnownBytes.{Appends};
 ghost use Rattle.whole_writes.specs.Beginnings.{AppendsBeginning};
 ghost use Rattle.session_check.specs.Counts.{last_line};
+ghost use Rattle.session_check.specs.Lines.{Texts, alone, both};
+ghost use Rattle.session_check.specs.NextLine.{Reads};
 ghost use Rattle.session_check.specs.Progress.{progress_of};
 ghost use Rattle.session_check.specs.Reports.{report_line};
 ghost use Rattle.session_check.specs.Runs.{CutsOff, Finishes, IsRun, Tells, TellsPart, stop_fault};
 
 use crate::counts::Counts;
 use crate::fault::{RunFault, Stop};
+use crate::lines::SessionLines;
 use crate::report::{Report, set_line};
 use crate::session::Session;
-use session_text::SessionReader;
 use std::alloc::Global;
 use std::io::{Read, Write};
 use whole_writes::write_whole;
@@ -30,9 +32,42 @@ pub fn check_alone<P: Read + Drop, W: Write>(
     proof: P,
     out: &mut W,
 ) -> Result<Counts, RunFault>
-    ensures { IsRun (P.remaining proof) (W.contents out.old) (W.contents out.new) result }
+    ensures { IsRun (alone (P.remaining proof)) (W.contents out.old) (W.contents out.new) result }
 {
-    let mut reader = SessionReader::new(alloc, proof);
+    check_lines(alloc, SessionLines::<P, P>::alone(alloc, proof), out)
+}
+
+/// Reads a session as ICNF text, with its proof as LIDRUP text, and checks each answer of the
+/// interaction, with the values or the core that it reports of it, as [`check_alone`] does. The
+/// proof's own clauses, queries and answers tell only the ids of clauses, and the lines among which
+/// they stand. What is reported of an answer is read before its line is written, so the interaction
+/// is read on up to a line behind it.
+///
+/// # Errors
+///
+/// As [`check_alone`]; `Interaction` if this text can't be read or is malformed, `Line` also where
+/// the proof does not repeat what comes next in it, and `Unproved` where the proof ends before it.
+pub fn check_session<I: Read + Drop, P: Read + Drop, W: Write>(
+    alloc: Global,
+    interaction: I,
+    proof: P,
+    out: &mut W,
+) -> Result<Counts, RunFault>
+    ensures { IsRun (both (I.remaining interaction) (P.remaining proof)) (W.contents out.old)
+        (W.contents out.new) result }
+{
+    check_lines(alloc, SessionLines::new(alloc, interaction, proof), out)
+}
+
+/// Checks a session before its first line.
+fn check_lines<P: Read + Drop, I: Read + Drop, W: Write>(
+    alloc: Global,
+    mut lines: SessionLines<P, I>,
+    out: &mut W,
+) -> Result<Counts, RunFault>
+    ensures { (known : Texts) → Reads P.remaining I.remaining known [] lines
+        → IsRun known (W.contents out.old) (W.contents out.new) result }
+{
     let mut session = match Session::new(alloc) {
         Ok(session) => session,
         Err(_) => return Err(RunFault::OutOfMemory),
@@ -40,13 +75,13 @@ pub fn check_alone<P: Read + Drop, W: Write>(
     let mut text = Vec::new(alloc);
     let mut counts = Counts::new();
     'lines: loop {
-        match reader.next_line() {
-            Ok(Some(kind)) => match session.take(kind, reader.lists()) {
+        match lines.next_line() {
+            Ok(Some(kind)) => match session.take(kind, lines.lists()) {
                 Ok(report) => tell(&mut text, &mut counts, report, out)?,
-                Err(stop) => return Err(fault_of(stop, reader.line())),
+                Err(stop) => return Err(fault_of(stop, lines.line())),
             },
-            Ok(None) => return finish(session, text, counts, reader.line(), out),
-            Err(fault) => return Err(RunFault::Proof(fault)),
+            Ok(None) => return finish(session, text, counts, lines.line(), out),
+            Err(fault) => return Err(fault),
         }
     }
 }

@@ -5,6 +5,8 @@
 #![tactic(auto)]
 
 #[cfg(test)]
+mod interactions;
+#[cfg(test)]
 mod runs;
 #[cfg(test)]
 mod sessions;

@@ -7,7 +7,7 @@ use test_streams::{Ended, Outcome, Page, Pieces};
 /// A session, and the outcome of its run.
 type Row = (&'static [u8], Outcome<'static>);
 
-const SHOWN: [Row; 4] = [
+const SHOWN: [Row; 6] = [
     (
         b"p lidrup\n",
         (
@@ -40,6 +40,27 @@ all answers are shown: 0 satisfiable, 2 unsatisfiable, 1 unknown\n",
             0,
         ),
     ),
+    // no header
+    (
+        b"i 1 1 0\nq -1 0\ns UNSATISFIABLE\nu -1 0 1 0\n",
+        (
+            "q 1 unsatisfiable: shown\n\
+all answers are shown: 0 satisfiable, 1 unsatisfiable, 0 unknown\n",
+            "",
+            0,
+        ),
+    ),
+    // several cores, of which the first counts, and not all that were announced
+    (
+        b"p lidrup\ni 1 1 0\nq -1 0\ns UNSATISFIABLE\nU 2\nu -1 0 1 0\nu -1 2 0 1 0\nq -1 0\n\
+s UNSATISFIABLE\nU 3\nu -1 0 1 0\nu 2 0 0\nq -1 0\ns UNSATISFIABLE\nu -1 0 1 0\n",
+        (
+            "q 1 unsatisfiable: shown\nq 2 unsatisfiable: shown\nq 3 unsatisfiable: shown\n\
+all answers are shown: 0 satisfiable, 3 unsatisfiable, 0 unknown\n",
+            "",
+            0,
+        ),
+    ),
     // a lemma that does not follow and is not needed
     (
         b"p lidrup\ni 1 1 2 0\nq 1 0\ns SATISFIABLE\nm 1 0\nl 2 -3 0 0\n",
@@ -52,7 +73,7 @@ all answers are shown: 1 satisfiable, 0 unsatisfiable, 0 unknown\n",
     ),
 ];
 
-const UNSHOWN: [Row; 8] = [
+const UNSHOWN: [Row; 9] = [
     // the clause 1 2 is missed
     (
         b"p lidrup\ni 1 1 2 0\nq -1 0\ns SATISFIABLE\nm -1 -2 0\nq 2 0\ns SATISFIABLE\nm 2 0\n",
@@ -119,6 +140,17 @@ q 3 satisfiable: not shown: the proof has no conclusion of it\n3 of 3 answers ar
             3,
         ),
     ),
+    // several cores, of which the first has more than what was assumed, and none
+    (
+        b"i 1 1 0\nq -1 0\ns UNSATISFIABLE\nU 2\nu -1 2 0 1 0\nu -1 0 1 0\nq -1 0\n\
+s UNSATISFIABLE\nU 1\ni 2 2 0\n",
+        (
+            "q 1 unsatisfiable: not shown: a literal of the core was not assumed\n\
+q 2 unsatisfiable: not shown: the proof has no conclusion of it\n2 of 2 answers are not shown\n",
+            "",
+            3,
+        ),
+    ),
     // the clause of a query comes after it
     (
         b"p lidrup\nq 1 0\ns SATISFIABLE\nm 1 0\ni 1 -1 0\nq 1 0\ns SATISFIABLE\nm 1 0\n",
@@ -143,7 +175,7 @@ q 2 unsatisfiable: not shown: a literal of the core was not assumed\n\
     ),
 ];
 
-const FAULTS: [Row; 14] = [
+const FAULTS: [Row; 17] = [
     (b"", ("", "proof: line 1: no header", 1)),
     (b"p idrup\nq 0\n", ("", "proof: line 1: no header", 1)),
     (
@@ -185,6 +217,28 @@ const FAULTS: [Row; 14] = [
     (
         b"p lidrup\ns UNKNOWN\n",
         ("", "proof: line 2: not expected here", 1),
+    ),
+    // a core more than were announced, a clause or a query before the last of them, and a count
+    // behind an answer that has no core
+    (
+        b"i 1 1 0\nq -1 0\ns UNSATISFIABLE\nU 1\nu -1 0 1 0\nu -1 0 1 0\n",
+        (
+            "q 1 unsatisfiable: shown\n",
+            "proof: line 6: not expected here",
+            1,
+        ),
+    ),
+    (
+        b"i 1 1 0\nq -1 0\ns UNSATISFIABLE\nU 2\nu -1 0 1 0\ni 2 2 0\nu -1 0 1 0\n",
+        (
+            "q 1 unsatisfiable: shown\n",
+            "proof: line 7: not expected here",
+            1,
+        ),
+    ),
+    (
+        b"q 1 0\ns SATISFIABLE\nU 2\n",
+        ("", "proof: line 3: not expected here", 1),
     ),
     (
         b"p lidrup\nq 1 0\ns UNSATISFIABLE\nm 1 0\n",
@@ -230,7 +284,7 @@ fn broken_streams(rt: HostRuntime) {
     let alloc = rt.alloc();
     let broken = Pieces::failing_at(ONE, ONE.len(), 2);
     let run = ended(alloc, broken, Page::endless(alloc));
-    let said = "proof: error reading proof: broken";
+    let said = "proof: error reading text: broken";
     assert_eq!(rt; run.outcome(), ("q 1 satisfiable: shown\n", said, 1));
     let run = ended(alloc, Pieces::whole(ONE), Page::of_room(alloc, 3));
     assert_eq!(rt; run.outcome(), ("q 1", "error writing: full", 1));

@@ -2,11 +2,12 @@
 --     Content      an id, literals as codes, and hints or other ids
 --     content_of lists      that which was read
 --     with_item c item      with one number more
+--     with_lits c lits      with other literals
 use Rattle.std.specs.Prelude.{ℕ, Bool, true, false, List, [], ◌∷◌, ◌++◌}
 use Rattle.session_text.specs.declared.line.Item.{Item}
 use Rattle.session_text.specs.declared.line.Item.TheVariants as items
 use Rattle.session_text.specs.declared.line.LineKind.{LineKind}
-use Rattle.session_text.specs.declared.line.LineKind.TheVariants.{Answer, Clause, Core, Deletion, Lemma, Model, Query, Trail, Weakening}
+use Rattle.session_text.specs.declared.line.LineKind.TheVariants.{Answer, Clause, Core, Deletion, Failed, Lemma, Model, Query, Several, Trail, Values, Weakening}
 use Rattle.session_text.specs.declared.line.Lists.{Lists}
 
 -- an id, or 0 where the line has none; literals as codes; hints, or the ids of a deletion or a weakening
@@ -29,6 +30,10 @@ with_item c (items.Id i) = record c { id = i }
 with_item c (items.Lit l) = record c { lits = c.lits ++ l ∷ [] }
 with_item c (items.Hint i) = record c { ids = c.ids ++ i ∷ [] }
 
+-- other literals
+abbrev pub with_lits : Content → List ℕ → Content
+with_lits c lits = record c { lits = lits }
+
 -- hints follow the literals
 abbrev pub has_hints : LineKind → Bool
 has_hints Clause = false
@@ -40,3 +45,6 @@ has_hints (Answer status) = false
 has_hints Model = false
 has_hints Core = true
 has_hints Trail = false
+has_hints (Several count) = false
+has_hints Values = false
+has_hints Failed = false

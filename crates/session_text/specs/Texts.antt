@@ -1,8 +1,9 @@
 -- What a text says: its lines, and how it ends.
 --     Line      a line
---     outcome_of text      the lines in their order, up to the end or the first fault
+--     outcome_of format text      the lines in their order, up to the end or the first fault
 use Rattle.std.specs.Prelude.{ℕ, List, [], ◌∷◌, Option, Some, None}
 use Rattle.session_text.specs.declared.fault.TextKind.{TextKind}
+use Rattle.session_text.specs.declared.format.Format.{Format}
 use Rattle.session_text.specs.declared.line.LineKind.{LineKind}
 use Rattle.session_text.specs.declared.spot.After.{After}
 use Rattle.session_text.specs.declared.spot.After.TheVariants.{Ends, Gives, Goes, Stops}
@@ -64,5 +65,5 @@ outcome_at c s (b ∷ bs) = elim (step c s b) [
 ]
 
 -- the whole text
-abbrev pub outcome_of : List ℕ → Outcome
-outcome_of text = outcome_at no_content start text
+abbrev pub outcome_of : Format → List ℕ → Outcome
+outcome_of format text = outcome_at no_content (start format) text

@@ -10,7 +10,8 @@ use thiserror::Error;
 /// What is wrong with a text.
 #[derive(Clone, Copy, Debug, PartialEq, Eq, Error)]
 pub enum TextKind {
-    /// The first line that is neither blank nor a comment is not `p lidrup`.
+    /// The first line that is neither blank nor a comment is not the header, which is needed there,
+    /// or there is none.
     #[error("no header")]
     NoHeader,
     /// A byte that the line does not have here.
@@ -28,7 +29,7 @@ pub enum TextKind {
 #[derive(Debug, Drop, Error)]
 pub enum SessionTextFault {
     /// A read failed, or the text is longer than any that is read.
-    #[error("error reading proof: {0}")]
+    #[error("error reading text: {0}")]
     Read(io::Error),
     /// The first fault of the text, and its line; lines count from 1.
     #[error("line {line}: {kind}")]

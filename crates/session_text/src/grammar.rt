@@ -1,25 +1,14 @@
 //! The grammar of a session, a byte after the other.
 ghost use Rattle.std.specs.Prelude.{◌≡◌};
-ghost use Rattle.session_text.specs.Places.{after, after_letter, after_s, before_word, between, done, due_after, first_digit, header, id_read, ids_said, in_comment, in_digits, in_header, in_word, is_spelled, last_read, line_start, lits_said, number_read, number_said, start_of, turns, word_of};
+ghost use Rattle.session_text.specs.Places.{after, after_letter, after_s, before_word, between, binary_start, done, first_digit, group_read, in_comment, in_digits, in_group, in_header, in_word, is_spelled, last_read, letter_of, letter_place, line_start, number_read, start_of, turns, word_goes, word_of};
 
 use crate::fault::TextKind;
-use crate::line::{Item, LineKind, Status};
-use crate::number::{id_said, lit_said, with_digit};
+use crate::format::Form;
+use crate::line::{LineKind, Status};
+use crate::number::{LAST_WEIGHT, with_digit, with_group};
+use crate::said::{Said, due_after, group_said, header, needs_header, number_said};
 use crate::spot::{After, Due, Place, Spot};
-use sat_formula::Lit;
 use sat_formula::bytes::{ends_word, is_blank, is_digit};
-
-/// What a number does in a line.
-#[derive(Clone, Copy)]
-pub(crate) enum Said {
-    /// It says this, and then this is due.
-    Next(Item, Due),
-    /// It ends a list, and then this is due.
-    Turns(Due),
-    /// It ends a line of this kind.
-    Last(LineKind),
-    Wrong(TextKind),
-}
 
 impl Status {
     fn word(self) -> &'static [u8]
@@ -42,6 +31,7 @@ impl Spot {
     {
         match self.place {
             Place::Digits(due, negative, value) => self.in_digits(due, negative, value, byte),
+            Place::Group(due, value, weight) => self.in_group(due, value, weight, byte),
             Place::Between(due) => self.between(due, byte),
             Place::Sign(due) => self.first_digit(due, true, byte),
             Place::LineStart => self.line_start(byte),
@@ -60,7 +50,9 @@ impl Spot {
     fn line_start(self, byte: u8) -> After
         ensures { result ≡ line_start self byte }
     {
-        if byte == b'\n' {
+        if self.is_binary() {
+            self.binary_start(byte)
+        } else if byte == b'\n' {
             After::Goes(self.next_line())
         } else if is_blank(byte) {
             After::Goes(self)
@@ -71,18 +63,37 @@ impl Spot {
         }
     }
 
-    /// At the first byte of the header or of a line after it.
+    /// The status of a query may have an LF behind it.
+    fn binary_start(self, byte: u8) -> After
+        ensures { result ≡ binary_start self byte }
+    {
+        if byte == b'\n' {
+            After::Goes(self)
+        } else {
+            self.start_of(byte)
+        }
+    }
+
+    /// At the first byte of the header or of a line.
     fn start_of(self, byte: u8) -> After
         ensures { result ≡ start_of self byte }
     {
-        if !self.headed {
-            return self.in_header(0, byte);
+        if !self.headed && needs_header(self.format, byte) {
+            self.in_header(0, byte)
+        } else {
+            self.in_lines().letter_of(byte)
         }
+    }
+
+    /// At the first byte of a line.
+    fn letter_of(self, byte: u8) -> After
+        ensures { result ≡ letter_of self byte }
+    {
         if byte == b's' {
             return After::Goes(self.moved(Place::AfterS));
         }
-        match due_after(byte) {
-            Some(due) => After::Goes(self.moved(Place::Letter(due))),
+        match due_after(self.format, byte) {
+            Some(due) => After::Goes(self.moved(self.letter_place(due))),
             None => After::Stops(TextKind::Malformed),
         }
     }
@@ -101,7 +112,7 @@ impl Spot {
     fn in_header(self, read: usize, byte: u8) -> After
         ensures { result ≡ in_header self read byte }
     {
-        let word = header();
+        let word = header(self.format);
         if read < word.len() && word[read] == byte {
             After::Goes(self.moved(Place::Header(read + 1)))
         } else if read == word.len() && ends_word(byte) {
@@ -111,11 +122,25 @@ impl Spot {
         }
     }
 
+    /// Returns the place after the letter of a line.
+    fn letter_place(self, due: Due) -> Place
+        ensures { result ≡ letter_place self due }
+    {
+        if self.is_binary() {
+            Place::Group(due, 0, 1)
+        } else {
+            Place::Letter(due)
+        }
+    }
+
+    /// After the letter. A space after that of the first line tells text from binary.
     fn after_letter(self, due: Due, byte: u8) -> After
         ensures { result ≡ after_letter self due byte }
     {
-        if is_blank(byte) {
-            After::Goes(self.moved(Place::Between(due)))
+        if self.is_untold() && byte != b' ' {
+            self.told(Form::Binary).in_group(due, 0, 1, byte)
+        } else if is_blank(byte) {
+            After::Goes(self.moved(Place::Between(due)).told(Form::Text))
         } else {
             After::Stops(TextKind::Malformed)
         }
@@ -141,6 +166,8 @@ impl Spot {
     {
         if is_blank(byte) {
             After::Goes(self.moved(Place::BeforeWord))
+        } else if self.is_binary() {
+            self.before_word(byte)
         } else {
             After::Stops(TextKind::Malformed)
         }
@@ -165,7 +192,7 @@ impl Spot {
         ensures { result ≡ in_word self status read byte }
     {
         if is_spelled(status, read, byte) {
-            After::Goes(self.moved(Place::Word(status, read + 1)))
+            self.word_goes(status, read + 1)
         } else if turns(status, read, byte) {
             After::Goes(self.moved(Place::Word(Status::Unknown, 3)))
         } else if ends_word(byte) && read == status.word().len() {
@@ -175,7 +202,46 @@ impl Spot {
         }
     }
 
+    /// After this many bytes of a status' word. In binary its last byte ends the line.
+    fn word_goes(self, status: Status, read: usize) -> After
+        ensures { result ≡ word_goes self status read }
+    {
+        if self.is_binary() && read == status.word().len() {
+            self.ends(Some(LineKind::Answer(status)))
+        } else {
+            After::Goes(self.moved(Place::Word(status, read)))
+        }
+    }
+
     // ---- numbers
+
+    /// In a binary number, after groups of this value, at a byte of this weight.
+    #[inline(always)]
+    fn in_group(self, due: Due, value: u64, weight: u64, byte: u8) -> After
+        ensures { result ≡ in_group self due value weight byte }
+    {
+        let value = with_group(value, weight, byte);
+        if byte < 128 {
+            self.group_read(group_said(due, value))
+        } else if weight < LAST_WEIGHT {
+            After::Goes(self.moved(Place::Group(due, value, weight * 128)))
+        } else {
+            After::Stops(TextKind::NumberTooLarge)
+        }
+    }
+
+    /// After a binary number.
+    #[inline(always)]
+    fn group_read(self, said: Said) -> After
+        ensures { result ≡ group_read self said }
+    {
+        match said {
+            Said::Next(item, due) => After::Gives(item, self.moved(Place::Group(due, 0, 1))),
+            Said::Turns(due) => After::Goes(self.moved(Place::Group(due, 0, 1))),
+            Said::Last(line) => self.ends(Some(line)),
+            Said::Wrong(kind) => After::Stops(kind),
+        }
+    }
 
     fn between(self, due: Due, byte: u8) -> After
         ensures { result ≡ between self due byte }
@@ -237,79 +303,6 @@ impl Spot {
             Said::Wrong(kind) => After::Stops(kind),
             Said::Next(_, _) | Said::Turns(_) => After::Stops(TextKind::Malformed),
         }
-    }
-}
-
-/// Returns the header.
-fn header() -> &'static [u8]
-    ensures { result.now ≡ header }
-{
-    b"p lidrup"
-}
-
-/// Returns what is due after the letter of a line, if the byte is one.
-fn due_after(letter: u8) -> Option<Due>
-    ensures { result ≡ due_after letter }
-{
-    match letter {
-        b'i' => Some(Due::Id(LineKind::Clause)),
-        b'l' => Some(Due::Id(LineKind::Lemma)),
-        b'd' => Some(Due::Hint(LineKind::Deletion)),
-        b'w' => Some(Due::Hint(LineKind::Weakening)),
-        b'r' => Some(Due::Hint(LineKind::Weakening)),
-        b'q' => Some(Due::Lit(LineKind::Query)),
-        b'm' => Some(Due::Lit(LineKind::Model)),
-        b'u' => Some(Due::Lit(LineKind::Core)),
-        b'e' => Some(Due::Lit(LineKind::Trail)),
-        _ => None,
-    }
-}
-
-/// Returns what a number of this value does, after a `-` or not.
-#[inline(always)]
-fn number_said(due: Due, negative: bool, value: u64) -> Said
-    ensures { result ≡ number_said due negative value }
-{
-    match due {
-        Due::Lit(kind) => lits_said(kind, lit_said(negative, value)),
-        Due::Hint(kind) => ids_said(kind, id_said(negative, value)),
-        Due::Id(kind) => id_read(kind, id_said(negative, value)),
-    }
-}
-
-/// Returns what a number does that says this among the literals of a line.
-#[inline(always)]
-fn lits_said(kind: LineKind, said: Result<Option<Lit>, TextKind>) -> Said
-    ensures { result ≡ lits_said kind said }
-{
-    match said {
-        Ok(Some(lit)) => Said::Next(Item::Lit(lit), Due::Lit(kind)),
-        Ok(None) if kind.has_hints() => Said::Turns(Due::Hint(kind)),
-        Ok(None) => Said::Last(kind),
-        Err(kind) => Said::Wrong(kind),
-    }
-}
-
-/// Returns what a number does that says this among the ids of a line.
-#[inline(always)]
-fn ids_said(kind: LineKind, said: Result<Option<u64>, TextKind>) -> Said
-    ensures { result ≡ ids_said kind said }
-{
-    match said {
-        Ok(Some(id)) => Said::Next(Item::Hint(id), Due::Hint(kind)),
-        Ok(None) => Said::Last(kind),
-        Err(kind) => Said::Wrong(kind),
-    }
-}
-
-/// Returns what a number does that says this as the id of a clause.
-fn id_read(kind: LineKind, said: Result<Option<u64>, TextKind>) -> Said
-    ensures { result ≡ id_read kind said }
-{
-    match said {
-        Ok(Some(id)) => Said::Next(Item::Id(id), Due::Lit(kind)),
-        Ok(None) => Said::Wrong(TextKind::Malformed),
-        Err(kind) => Said::Wrong(kind),
     }
 }
 

@@ -17,7 +17,7 @@ pub enum Status {
 /// What a line says. Its id, literals and ids are in `Lists`.
 #[derive(Clone, Copy, Debug, PartialEq, Eq)]
 pub enum LineKind {
-    /// `i`: the application gives a clause, under an id.
+    /// `i`: the application gives a clause, in a proof under an id.
     Clause,
     /// `l`: a lemma under an id, with hints.
     Lemma,
@@ -35,6 +35,12 @@ pub enum LineKind {
     Core,
     /// `e`: a trail, which says nothing.
     Trail,
+    /// `U`: this many cores of a query follow.
+    Several(u64),
+    /// `v` or `m` of ICNF: values that the application was told.
+    Values,
+    /// `f` or `u` of ICNF: assumptions of which the application was told that they fail together.
+    Failed,
 }
 
 /// What stands in a line.

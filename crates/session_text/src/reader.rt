@@ -1,24 +1,32 @@
 //! Lines from a reader's bytes.
 ghost use Rattle.std.specs.Prelude.{◌≡◌, ◌-◌, ◌^◌, ◌≤◌};
-ghost use Rattle.session_text.specs.Content.{content_of};
+ghost use Rattle.session_text.specs.Content.{content_of, with_lits};
 ghost use Rattle.session_text.specs.Reading.{Ends, IsTaken};
 ghost use Rattle.session_text.specs.Texts.{ending_at, step};
 
 use crate::fault::{SessionTextFault, Stop};
+use crate::format::Format;
 use crate::line::{LineKind, Lists};
 use crate::spot::{After, Spot};
 use drat_text::bytes::Bytes;
 use drat_text::fault::Stop as NoByte;
 use std::alloc::Global;
 use std::io::Read;
+use std::mem::swap;
 
-/// A reader of the lines of a LIDRUP text, one after the other.
+/// A reader of the lines of a session's text, one after the other.
 ///
-/// The first line is `p lidrup`. The others are `s` and a status, or a letter and lists of numbers
-/// between blanks (space, tab and CR), each up to a 0: `i ID LITS 0`, `l ID LITS 0 HINTS 0`,
-/// `d IDS 0`, `w IDS 0`, `r IDS 0`, `q LITS 0`, `m LITS 0`, `u LITS 0 HINTS 0`, `e LITS 0`. Each
-/// line ends with an LF. Lines of blanks and those that begin with `c` are passed over. Ids go from
-/// 1 to 2^60 - 1, variables up to `Var::MAX_COUNT`; numbers have no leading zeros.
+/// The first line is `p icnf`, or `p lidrup`, which a proof may lack. The others are `s` and a
+/// status, `U` and a number, or a letter and lists of numbers between blanks (space, tab and CR),
+/// each up to a 0. In LIDRUP: `i ID LITS 0`, `l ID LITS 0 HINTS 0`, `d IDS 0`, `w IDS 0`,
+/// `r IDS 0`, `q LITS 0`, `m LITS 0`, `u LITS 0 HINTS 0`, `e LITS 0`. In ICNF: `i`, `q`, `v`, `m`,
+/// `f` or `u`, each with `LITS 0`. Each line ends with an LF. Lines of blanks and those that begin
+/// with `c` are passed over. Ids, and the numbers of `U`, go from 1 to 2^60 - 1, variables up to
+/// `Var::MAX_COUNT`; numbers have no leading zeros.
+///
+/// LIDRUP may be binary behind its header: then a line is its letter and lists of numbers as in
+/// binary DRAT, where ids, hints and the number of `U` are encoded as themselves, or an `s` with
+/// its status. The proof is text if a space follows the letter of its first line.
 ///
 /// It keeps the bytes read ahead and one line. Of a text it takes at most `u64::MAX` bytes; where
 /// it would take more, it is as if a read had failed.
@@ -34,15 +42,15 @@ impl<R: Read> SessionReader<R> {
     ghost use Rattle.session_text.specs.Places.{start};
 
     /// Returns a reader at the start of a text. It takes no memory and reads nothing yet.
-    pub fn new(alloc: Global, inner: R) -> SessionReader<R>
+    pub fn new(alloc: Global, inner: R, format: Format) -> SessionReader<R>
         ensures bytes { bytes_left R.remaining result ≡ R.remaining inner }
         ensures room { room_left result ≡ 2 ^ 64 - 1 }
-        ensures spot { spot_of result ≡ start }
+        ensures spot { spot_of result ≡ start format }
     {
         SessionReader {
             bytes: Bytes::new(alloc, inner),
             lists: Lists::new(alloc),
-            spot: Spot::start(),
+            spot: Spot::start(format),
         }
     }
 
@@ -58,6 +66,33 @@ impl<R: Read> SessionReader<R> {
         ensures { content_of result.now ≡ content_read self.now }
     {
         &self.lists
+    }
+
+    /// Exchanges the literals of the line that was read last and those of another text's line.
+    pub fn swap_lits<Q: Read>(&mut self, other: &mut SessionReader<Q>)
+        ensures content { content_read self.new ≡ with_lits (content_read self.old)
+            (content_read other.old).lits }
+        ensures bytes { bytes_left R.remaining self.new ≡ bytes_left R.remaining self.old }
+        ensures room { room_left self.new ≡ room_left self.old }
+        ensures spot { spot_of self.new ≡ spot_of self.old }
+        ensures other_bytes { bytes_left Q.remaining other.new ≡ bytes_left Q.remaining other.old }
+        ensures other_room { room_left other.new ≡ room_left other.old }
+        ensures other_spot { spot_of other.new ≡ spot_of other.old }
+    {
+        swap(&mut self.lists.lits, &mut other.lists.lits);
+    }
+
+    /// Exchanges all that stands in the line that was read last and in another text's line.
+    pub fn swap_lists<Q: Read>(&mut self, other: &mut SessionReader<Q>)
+        ensures content { content_read self.new ≡ content_read other.old }
+        ensures bytes { bytes_left R.remaining self.new ≡ bytes_left R.remaining self.old }
+        ensures room { room_left self.new ≡ room_left self.old }
+        ensures spot { spot_of self.new ≡ spot_of self.old }
+        ensures other_bytes { bytes_left Q.remaining other.new ≡ bytes_left Q.remaining other.old }
+        ensures other_room { room_left other.new ≡ room_left other.old }
+        ensures other_spot { spot_of other.new ≡ spot_of other.old }
+    {
+        swap(&mut self.lists, &mut other.lists);
     }
 
     /// Reads the next line and returns its kind, or `None` at the end of the text. What stands in

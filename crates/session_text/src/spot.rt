@@ -1,8 +1,9 @@
 //! Where the reading of a text is.
 ghost use Rattle.std.specs.Prelude.{◌≡◌};
-ghost use Rattle.session_text.specs.Places.{at_end, ends, moved, next_line, start};
+ghost use Rattle.session_text.specs.Places.{at_end, ends, form_at_start, in_lines, is_binary, is_untold, moved, next_line, start, told};
 
 use crate::fault::TextKind;
+use crate::format::{Form, Format};
 use crate::line::{Item, LineKind, Status};
 
 /// What is due next in a line of this kind.
@@ -14,6 +15,8 @@ pub(crate) enum Due {
     Lit(LineKind),
     /// An id, or the 0 after the last.
     Hint(LineKind),
+    /// How many cores follow.
+    Count,
 }
 
 /// A place in a line.
@@ -32,6 +35,8 @@ pub(crate) enum Place {
     Sign(Due),
     /// In digits of this value, after a `-` or not.
     Digits(Due, bool, u64),
+    /// In a binary number, after groups of this value, before one of this weight.
+    Group(Due, u64, u64),
     AfterS,
     BeforeWord,
     /// In a status, of which this many bytes were read. `UN` counts as of `UNSATISFIABLE`.
@@ -43,9 +48,11 @@ pub(crate) enum Place {
 /// Where the reading of a text is.
 #[derive(Clone, Copy)]
 pub(crate) struct Spot {
+    pub(crate) format: Format,
+    pub(crate) form: Form,
     /// The number of the line; it stays at `u64::MAX`.
     pub(crate) line: u64,
-    /// Whether the header was read.
+    /// Whether the header was read, or a line of a text without one.
     pub(crate) headed: bool,
     pub(crate) place: Place,
 }
@@ -63,10 +70,12 @@ pub(crate) enum After {
 
 impl Spot {
     /// Returns the start of a text.
-    pub(crate) fn start() -> Spot
-        ensures { result ≡ start }
+    pub(crate) fn start(format: Format) -> Spot
+        ensures { result ≡ start format }
     {
         Spot {
+            format,
+            form: form_at_start(format),
             line: 1,
             headed: false,
             place: Place::LineStart,
@@ -78,6 +87,37 @@ impl Spot {
         ensures { result ≡ moved self place }
     {
         Spot { place, ..self }
+    }
+
+    /// Returns this place where lines are written so.
+    #[inline(always)]
+    pub(crate) fn told(self, form: Form) -> Spot
+        ensures { result ≡ told self form }
+    {
+        Spot { form, ..self }
+    }
+
+    #[inline(always)]
+    pub(crate) fn is_binary(self) -> bool
+        ensures { result ≡ is_binary self }
+    {
+        matches!(self.form, Form::Binary)
+    }
+
+    pub(crate) fn is_untold(self) -> bool
+        ensures { result ≡ is_untold self }
+    {
+        matches!(self.form, Form::Untold)
+    }
+
+    /// Returns this place behind the header, or in a text without one.
+    pub(crate) fn in_lines(self) -> Spot
+        ensures { result ≡ in_lines self }
+    {
+        Spot {
+            headed: true,
+            ..self
+        }
     }
 
     /// Returns the start of the next line.
@@ -97,10 +137,7 @@ impl Spot {
     {
         match kind {
             Some(kind) => After::Ends(kind, self.next_line()),
-            None => After::Goes(Spot {
-                headed: true,
-                ..self.next_line()
-            }),
+            None => After::Goes(self.next_line().in_lines()),
         }
     }
 
@@ -113,5 +150,15 @@ impl Spot {
             Place::LineStart => Some(TextKind::NoHeader),
             _ => Some(TextKind::Unfinished),
         }
+    }
+}
+
+/// Returns how the lines of a text are written, as far as its format says.
+fn form_at_start(format: Format) -> Form
+    ensures { result ≡ form_at_start format }
+{
+    match format {
+        Format::Icnf => Form::Text,
+        Format::Lidrup => Form::Untold,
     }
 }

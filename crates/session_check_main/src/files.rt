@@ -1,0 +1,101 @@
+//! Sessions in files.
+ghost use Rattle.std.specs.Prelude.{◌≡◌, IfOk, OnErr};
+ghost use Rattle.command.specs.Inputs.{bytes_named, source_bytes_left};
+ghost use Rattle.session_check.specs.Lines.{alone, both};
+ghost use Rattle.session_check_main.specs.Sessions.{HasRun};
+
+use command::{NOT_RUN, Source, System, open_file, open_inputs};
+use session_check::{Counts, RunFault, check_alone, check_session, exit_status};
+use std::io;
+use std::io::Write;
+
+/// Checks a session that a proof tells by itself. Returns the exit status, as an Err where the
+/// proof can't be opened.
+pub(crate) fn check_proof<S: System, W: Write>(
+    system: &S,
+    name: &str,
+    out: &mut W,
+) -> Result<u8, u8>
+    ensures runs { IfOk result (HasRun
+        (alone (bytes_named (S.file_bytes system.now) (S.input_bytes system.now) name.now))
+        (W.contents out.old) (W.contents out.new)) }
+    ensures silent { OnErr result (W.contents out.new ≡ W.contents out.old) }
+{
+    let proof = open(system, name)?;
+    let outcome = check_alone(system.alloc(), proof, out);
+    say_end(system, &outcome, name, name);
+    Ok(exit_status(&outcome))
+}
+
+/// Checks an interaction by its proof; both are opened before anything is read. Returns the exit
+/// status, as an Err where one can't be opened.
+pub(crate) fn check_interaction<S: System, W: Write>(
+    system: &S,
+    interaction: &str,
+    proof: &str,
+    out: &mut W,
+) -> Result<u8, u8>
+    ensures runs { IfOk result (HasRun
+        (both (bytes_named (S.file_bytes system.now) (S.input_bytes system.now) interaction.now)
+        (bytes_named (S.file_bytes system.now) (S.input_bytes system.now) proof.now))
+        (W.contents out.old) (W.contents out.new)) }
+    ensures silent { OnErr result (W.contents out.new ≡ W.contents out.old) }
+{
+    let (told, proved) = open_inputs(system, interaction, proof).ok_or(NOT_RUN)?;
+    let outcome = check_session(system.alloc(), told.file, proved.file, out);
+    say_end(system, &outcome, interaction, proof);
+    Ok(exit_status(&outcome))
+}
+
+/// Opens a file, or takes standard input. An Err is the exit status where it can't be opened.
+fn open<S: System>(system: &S, name: &str) -> Result<Source<S::File, S::Input>, u8>
+    ensures { IfOk result (λ source. source_bytes_left S.File.remaining S.Input.remaining source
+        ≡ bytes_named (S.file_bytes system.now) (S.input_bytes system.now) name.now) }
+{
+    if name == "-" {
+        match system.standard_input() {
+            Ok(input) => Ok(Source::StandardInput(input)),
+            Err(fault) => Err(say_closed(system, fault)),
+        }
+    } else {
+        match open_file(system, name) {
+            Some(input) => Ok(input.file),
+            None => Err(NOT_RUN),
+        }
+    }
+}
+
+/// Prints why standard input can't be read, and returns the exit status 2.
+fn say_closed<S: System>(system: &S, why: io::Error) -> u8 {
+    let _ = eprintln!(system; "cannot open -");
+    let _ = eprintln!(system; "{why}");
+    NOT_RUN
+}
+
+/// Prints why a run was not brought to its end, if it was not, and in which file the fault is.
+fn say_end<S: System>(
+    system: &S,
+    outcome: &Result<Counts, RunFault>,
+    interaction: &str,
+    proof: &str,
+) {
+    let Err(fault) = outcome else {
+        return;
+    };
+    let _ = eprintln!(system; "{fault}");
+    match fault {
+        RunFault::Interaction(_) | RunFault::Unproved { .. } => say_file(system, interaction),
+        RunFault::Proof(_) | RunFault::Line { .. } | RunFault::NoAnswer { .. } => {
+            say_file(system, proof)
+        }
+        RunFault::OutOfMemory | RunFault::Write(_) => {}
+    }
+}
+
+fn say_file<S: System>(system: &S, name: &str) {
+    let _ = if name == "-" {
+        eprintln!(system; "in standard input")
+    } else {
+        eprintln!(system; "in {name}")
+    };
+}
