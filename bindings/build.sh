@@ -1,5 +1,6 @@
 #!/usr/bin/env bash
-# Builds the library for other languages: libcefindrato.a and libcefindrato.so in a folder.
+# Builds the library for other languages: libcefindrato.a and libcefindrato.so in a folder; and, where a C++ compiler finds CaDiCaL,
+# libcefindrato_ipasir.a and libcefindrato_ipasir.so, which have the library and CaDiCaL in them, and show the names of IPASIR alone.
 #
 #   bindings/build.sh [--built] FOLDER
 #   bindings/build.sh --archive          where `rt lib` leaves it
@@ -53,3 +54,27 @@ rm -f "$1/libcefindrato.a"
 ar rcsD "$1/libcefindrato.a" "$work/cefindrato.o"
 "${CC:-cc}" -shared -Wl,-soname,libcefindrato.so.0 -o "$1/libcefindrato.so" "$work/cefindrato.o"
 strip --strip-unneeded "$1/libcefindrato.so"
+
+cxx=${CXX:-c++}
+if ! command -v "$cxx" > "$work/said" || ! "$cxx" -std=c++17 -x c++ -include cadical.hpp -fsyntax-only /dev/null 2> "$work/said"; then
+  echo "$cxx finds no cadical.hpp: no libcefindrato_ipasir" >&2
+  exit
+fi
+# (g++ makes symbols of a kind that can't be hidden, unless it is told not to)
+flags=(-std=c++17 -O2 -fPIC -I "$top/bindings/c")
+if "$cxx" -fno-gnu-unique -x c++ -fsyntax-only /dev/null 2> "$work/said"; then
+  flags+=(-fno-gnu-unique)
+fi
+if ! "$cxx" "${flags[@]}" -c -o "$work/layer.o" "$top/bindings/ipasir/ipasir_checked.cpp"; then
+  echo "the layer does not fit this version of CaDiCaL: no libcefindrato_ipasir" >&2
+  exit
+fi
+# (the library of CaDiCaL has functions of IPASIR too, in a part that nothing here asks for)
+"$cxx" -r -nostdlib -Wl,--force-group-allocation -o "$work/whole.o" "$work/layer.o" "$work/cefindrato.o" -lcadical
+objcopy --strip-debug --wildcard --keep-global-symbol='ipasir_*' "$work/whole.o" "$work/cefindrato_ipasir.o"
+rm -f "$1/libcefindrato_ipasir.a"
+ar rcsD "$1/libcefindrato_ipasir.a" "$work/cefindrato_ipasir.o"
+echo '{ global: ipasir_*; local: *; };' > "$work/names"
+"$cxx" -shared -static-libstdc++ -static-libgcc "-Wl,--version-script=$work/names" -Wl,-soname,libcefindrato_ipasir.so.0 \
+  -o "$1/libcefindrato_ipasir.so" "$work/cefindrato_ipasir.o"
+strip --strip-unneeded "$1/libcefindrato_ipasir.so"

@@ -59,9 +59,10 @@ library=$prefix/lib/libcefindrato.a
 header=$prefix/include
 
 # other libraries of the toolchain define the names that are hidden here
-session=cefindrato_session
-wanted="cefindrato_drat_check cefindrato_lrat_check cefindrato_model_check ${session}_begin ${session}_delete ${session}_derive \
-${session}_end ${session}_fails ${session}_give ${session}_satisfies cefindrato_version "
+checker=cefindrato_checker session=cefindrato_session
+wanted="${checker}_add_clause ${checker}_begin ${checker}_check_step ${checker}_end ${checker}_unsat cefindrato_drat_check \
+cefindrato_lrat_check cefindrato_model_check ${session}_begin ${session}_delete ${session}_derive ${session}_end ${session}_fails \
+${session}_give ${session}_satisfies cefindrato_version "
 for names in "nm -g $library" "nm -D $prefix/lib/libcefindrato.so"; do
   exported=$($names --defined-only | awk 'NF == 3 { print $3 }' | sort | tr '\n' ' ')
   if [[ $exported != "$wanted" ]]; then
@@ -74,34 +75,48 @@ cc -std=c99 -O2 -Wall -Wextra -Werror -pthread -I"$header" -o "$work/c" "$own/te
 "$work/c" "$cnf" "$proof"
 cc -g -fsanitize=address,undefined -fno-sanitize-recover=all -pthread -I"$header" -o "$work/checked" "$own/test.c" "$library"
 "$work/checked" "$cnf" "$proof"
-cc -std=c99 -O2 -Wall -Wextra -Werror -I"$header" -o "$work/session" "$own/session.c" "$library"
-"$work/session" 6
-cc -g -fsanitize=address,undefined -fno-sanitize-recover=all -I"$header" -o "$work/session_checked" "$own/session.c" "$library"
-"$work/session_checked" 5
-cc -std=c99 -O2 -Wall -Wextra -Werror -I"$header" -o "$work/example" "$top/bindings/c/session_example.c" "$library"
-if [[ $("$work/example") != $'unsatisfiable under -2: shown\nsatisfiable: shown' ]]; then
-  echo "the example: $("$work/example")"
-  exit 1
-fi
+# what is kept behind a handle, in all orders of calls
+for name in session checker; do
+  cc -std=c99 -O2 -Wall -Wextra -Werror -I"$header" -o "$work/$name" "$own/$name.c" "$library"
+  "$work/$name"
+  cc -g -fsanitize=address,undefined -fno-sanitize-recover=all -I"$header" -o "$work/${name}_checked" "$own/$name.c" "$library"
+  "$work/${name}_checked" 5
+  cc -std=c99 -O2 -Wall -Wextra -Werror -I"$header" -o "$work/${name}_example" "$top/bindings/c/${name}_example.c" "$library"
+done
+says() {
+  if [[ $("$1") != "$2" ]]; then
+    echo "$1: $("$1")"
+    exit 1
+  fi
+}
+queries=$'unsatisfiable under -1 and -3: shown\nsatisfiable under -3: shown'
+says "$work/session_example" $'unsatisfiable under -2: shown\nsatisfiable: shown'
+says "$work/checker_example" "$queries"
 cc -std=c99 -O2 -Wall -Wextra -Werror -I"$header" -Wl,--wrap=malloc,--wrap=realloc -o "$work/memory" "$own/memory.c" "$library"
 "$work/memory"
 if has valgrind; then
   valgrind -q --leak-check=full --error-exitcode=9 "$work/c" "$cnf" "$proof"
   valgrind -q --leak-check=full --error-exitcode=9 "$work/memory"
-  valgrind -q --leak-check=full --error-exitcode=9 "$work/session" 3
+  for name in session checker; do
+    valgrind -q --leak-check=full --error-exitcode=9 "$work/$name" 3
+  done
   valgrind -q --tool=helgrind --error-exitcode=9 "$work/c" "$cnf" "$proof"
 fi
 if has c++; then
   c++ -O2 -Wall -Werror -pthread -x c++ -I"$header" -o "$work/c_as_cpp" "$own/test.c" -x none "$library"
   "$work/c_as_cpp" "$cnf" "$proof"
-  c++ -O2 -Wall -Werror -x c++ -I"$header" -o "$work/session_as_cpp" "$own/session.c" -x none "$library"
-  "$work/session_as_cpp" 3
   c++ -std=c++17 -g -fsanitize=address,undefined -fno-sanitize-recover=all -Wall -Wextra -Werror -pthread -I"$header" -o "$work/cpp" \
     "$own/test.cpp" "$library"
   "$work/cpp" "$cnf" "$proof"
-  c++ -std=c++17 -g -fsanitize=address,undefined -fno-sanitize-recover=all -Wall -Wextra -Werror -I"$header" -o "$work/session_cpp" \
-    "$own/session.cpp" "$library"
-  "$work/session_cpp"
+  for name in session checker; do
+    c++ -O2 -Wall -Werror -x c++ -I"$header" -o "$work/${name}_as_cpp" "$own/$name.c" -x none "$library"
+    "$work/${name}_as_cpp" 3
+    c++ -std=c++17 -g -fsanitize=address,undefined -fno-sanitize-recover=all -Wall -Wextra -Werror -I"$header" -o "$work/${name}_cpp" \
+      "$own/$name.cpp" "$library"
+    "$work/${name}_cpp"
+  done
+  c++ -std=c++17 -O2 -Wall -Wextra -Werror -I"$header" -o "$work/cpp_example" "$top/bindings/cpp/checker_example.cpp" "$library"
+  says "$work/cpp_example" "$queries"
 fi
 
 # projects outside the repository: C by pkg-config, and by the static library alone
@@ -140,7 +155,7 @@ fi
 # a network
 mkdir "$work/bin"
 ln -s "$top/tools/checked" "$work/bin/"
-for program in drat_check lrat_check model_check; do
+for program in drat_check lrat_check model_check session_check; do
   if [[ -x $top/crates/${program}_main/out/${program}_main ]]; then
     ln -s "$top/crates/${program}_main/out/${program}_main" "$work/bin/$program"
   else
@@ -152,6 +167,13 @@ if has python3; then
   CEFINDRATO_LIBRARY=$prefix/lib/libcefindrato.so PYTHONPATH=$top/bindings/python python3 "$own/test.py" "$cnf" "$proof"
   CEFINDRATO_LIBRARY=$prefix/lib/libcefindrato.so PYTHONPATH=$top/bindings/python PATH=$work/bin:$PATH \
     python3 "$top/tests/release/wheel.py" "$top/tests/data"
+  # sessions of queries by the session, by the ported checker, and by the program
+  if [[ -x $work/bin/session_check ]]; then
+    mkdir "$work/judged"
+    tar -xJf "$top/tests/sessions/judged.tar.xz" -C "$work/judged"
+    CEFINDRATO_LIBRARY=$prefix/lib/libcefindrato.so PYTHONPATH=$top/bindings/python \
+      python3 "$top/tests/sessions/handles.py" "$work/bin/session_check" "$work/judged" 1 "${SESSIONS:-300}"
+  fi
   if has pkg-config && python3 -m venv "$work/venv" > "$work/said" 2>&1; then
     cp -R "$top/bindings/python" "$work/package"
     quiet "$work/venv/bin/pip" install -q --no-index --no-build-isolation --disable-pip-version-check "$work/package"

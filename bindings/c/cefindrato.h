@@ -82,6 +82,16 @@ static inline const uint8_t *cefindrato_bytes(const void *given) {
     return given ? (const uint8_t *)given : nothing;
 }
 
+static inline const int32_t *cefindrato_numbers(const int32_t *given) {
+    static const int32_t none[1] = {0};
+    return given ? given : none;
+}
+
+static inline const uint64_t *cefindrato_ids(const uint64_t *given) {
+    static const uint64_t none[1] = {0};
+    return given ? given : none;
+}
+
 /* Checks an LRAT proof, text or binary, against a DIMACS text. `text` gets a fault's text, as much of it as text_size bytes hold. */
 static inline cefindrato_answer cefindrato_check(const void *cnf, size_t cnf_len, const void *proof, size_t proof_len,
                                                  char *text, size_t text_size) {

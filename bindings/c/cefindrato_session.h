@@ -52,16 +52,6 @@ cefindrato_session_answer cefindrato_session_satisfies(cefindrato_session *sessi
 /* The calls for callers, beside `cefindrato_session_begin` and `cefindrato_session_end`: a list may be null where its length is 0. If it
  * is null and its length is not 0, the status is CEFINDRATO_NOT_RUN, and the cause 0. */
 
-static inline const int32_t *cefindrato_numbers(const int32_t *given) {
-    static const int32_t none[1] = {0};
-    return given ? given : none;
-}
-
-static inline const uint64_t *cefindrato_ids(const uint64_t *given) {
-    static const uint64_t none[1] = {0};
-    return given ? given : none;
-}
-
 static inline cefindrato_session_answer cefindrato_null_list(void) {
     const cefindrato_session_answer answer = {CEFINDRATO_NOT_RUN, 0, 0};
     return answer;

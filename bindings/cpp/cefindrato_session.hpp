@@ -3,10 +3,10 @@
 // The calls are those of cefindrato_session.h. A session belongs to one thread at a time.
 #ifndef CEFINDRATO_SESSION_HPP
 #define CEFINDRATO_SESSION_HPP
+#include "cefindrato_handle.hpp"
 #include "cefindrato_session.h"
 #include <new>
 #include <stdexcept>
-#include <utility>
 #include <vector>
 
 namespace cefindrato {
@@ -22,26 +22,21 @@ struct SessionAnswer {
 // literal or the session was moved from; the session is then as it was.
 class Session {
   public:
-    Session() { answer_of(cefindrato_session_begin(&session)); }
-    Session(Session &&other) noexcept : session(std::exchange(other.session, {})) {}
-    Session &operator=(Session &&other) noexcept {
-        std::swap(session, other.session);
-        return *this;
-    }
-    ~Session() { cefindrato_session_end(&session); }
+    Session() { answer_of(cefindrato_session_begin(session.get())); }
 
     SessionAnswer give(uint64_t id, const std::vector<int32_t> &clause) {
-        return answer_of(cefindrato_give(&session, id, clause.data(), clause.size()));
+        return answer_of(cefindrato_give(session.get(), id, clause.data(), clause.size()));
     }
     SessionAnswer derive(uint64_t id, const std::vector<int32_t> &lemma, const std::vector<uint64_t> &hints) {
-        return answer_of(cefindrato_derive(&session, id, lemma.data(), lemma.size(), hints.data(), hints.size()));
+        return answer_of(cefindrato_derive(session.get(), id, lemma.data(), lemma.size(), hints.data(), hints.size()));
     }
-    void remove(const std::vector<uint64_t> &ids) { answer_of(cefindrato_delete(&session, ids.data(), ids.size())); }
+    void remove(const std::vector<uint64_t> &ids) { answer_of(cefindrato_delete(session.get(), ids.data(), ids.size())); }
     SessionAnswer fails(const std::vector<int32_t> &assumed, const std::vector<int32_t> &core, const std::vector<uint64_t> &hints) {
-        return answer_of(cefindrato_fails(&session, assumed.data(), assumed.size(), core.data(), core.size(), hints.data(), hints.size()));
+        return answer_of(
+            cefindrato_fails(session.get(), assumed.data(), assumed.size(), core.data(), core.size(), hints.data(), hints.size()));
     }
     SessionAnswer satisfies(const std::vector<int32_t> &assumed, const std::vector<int32_t> &model) {
-        return answer_of(cefindrato_satisfies(&session, assumed.data(), assumed.size(), model.data(), model.size()));
+        return answer_of(cefindrato_satisfies(session.get(), assumed.data(), assumed.size(), model.data(), model.size()));
     }
 
   private:
@@ -53,7 +48,7 @@ class Session {
         return {answer.cause, answer.clause};
     }
 
-    cefindrato_session session = {nullptr, false};
+    detail::Handle<cefindrato_session, cefindrato_session_end> session;
 };
 
 } // namespace cefindrato

@@ -5,35 +5,14 @@
 //
 // The trace of this version does not say when it restores a clause, so deletions of clauses of the session are left out, and a
 // derived clause that it restores is missing. Where that matters, `sessions check` passes over all deletions.
+#include "cadical_callbacks.hpp"
 #include "ipasir.h"
 #include "record.hpp"
-#include <cadical.hpp>
 #include <unordered_set>
 
 namespace {
 
 using sessions::Literals;
-
-struct Terminate : CaDiCaL::Terminator {
-    void *state = nullptr;
-    int (*asks)(void *) = nullptr;
-    bool terminate() override { return asks && asks(state); }
-};
-
-struct Learn : CaDiCaL::Learner {
-    void *state = nullptr;
-    int longest = 0;
-    void (*takes)(void *, int *) = nullptr;
-    Literals clause;
-    bool learning(int size) override { return takes && size <= longest; }
-    void learn(int literal) override {
-        clause.push_back(literal);
-        if (!literal) {
-            takes(state, clause.data());
-            clause.clear();
-        }
-    }
-};
 
 // One name for all orders of a clause.
 std::string name_of(Literals literals) {
@@ -45,8 +24,7 @@ std::string name_of(Literals literals) {
 class Solver {
   public:
     CaDiCaL::Solver solver;
-    Terminate terminate;
-    Learn learn;
+    sessions::Callbacks callbacks{solver};
 
     Solver() : record_(sessions::Record::wanted()) {
         solver.set("quiet", 1);
@@ -161,26 +139,9 @@ int ipasir_solve(void *solver) { return of(solver)->solve(); }
 int ipasir_val(void *solver, int literal) { return of(solver)->value(literal); }
 int ipasir_failed(void *solver, int literal) { return of(solver)->failed(literal); }
 
-void ipasir_set_terminate(void *solver, void *state, int (*terminate)(void *)) {
-    Terminate &with = of(solver)->terminate;
-    with.state = state;
-    with.asks = terminate;
-    if (terminate) {
-        of(solver)->solver.connect_terminator(&with);
-    } else {
-        of(solver)->solver.disconnect_terminator();
-    }
-}
+void ipasir_set_terminate(void *solver, void *state, int (*terminate)(void *)) { of(solver)->callbacks.terminate(state, terminate); }
 
 void ipasir_set_learn(void *solver, void *state, int max_length, void (*learn)(void *, int *)) {
-    Learn &with = of(solver)->learn;
-    with.state = state;
-    with.longest = max_length;
-    with.takes = learn;
-    if (learn) {
-        of(solver)->solver.connect_learner(&with);
-    } else {
-        of(solver)->solver.disconnect_learner();
-    }
+    of(solver)->callbacks.learn(state, max_length, learn);
 }
 }

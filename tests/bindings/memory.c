@@ -1,5 +1,6 @@
 /* Each growth of each call is refused, alone and with all that come after it; exits 0 if each answers what it must: what it answers
  * with memory, or that there was none. Linked with --wrap=malloc and --wrap=realloc. */
+#include "cefindrato_checker.h"
 #include "cefindrato_session.h"
 #include <stdio.h>
 #include <stdlib.h>
@@ -146,10 +147,83 @@ static void refuse_session(bool all) {
     }
 }
 
+/* The calls of a checker; the last but one has no model, and is rejected. */
+enum { CHECKER_CALLS = 8, MODEL_CALL = 6 };
+
+static cefindrato_checker_answer checker_call(cefindrato_checker *checker, int call) {
+    static const int32_t first[] = {1, 2}, second[] = {1, -2}, lemma[] = {1, 3}, assumed[] = {-1, -3};
+    const uint64_t hashes[] = {cefindrato_clause_hash(first, 2), cefindrato_clause_hash(second, 2)};
+    const uint64_t core_hashes[] = {cefindrato_clause_hash(lemma, 2)};
+    switch (call) {
+    case 0:
+        return cefindrato_checker_begin(checker);
+    case 1:
+        return cefindrato_add_clause(checker, first, 2);
+    case 2:
+        return cefindrato_check_step(checker, CEFINDRATO_STEP_ADD_CLAUSE, second, 2, NULL, 0);
+    case 3:
+        return cefindrato_check_step(checker, CEFINDRATO_STEP_REDUNDANT_AT_CLAUSE, lemma, 2, hashes, 2);
+    case 4:
+        return cefindrato_check_step(checker, CEFINDRATO_STEP_ASSUMPTIONS, assumed, 2, NULL, 0);
+    case 5:
+        return cefindrato_check_step(checker, CEFINDRATO_STEP_FAILED_ASSUMPTIONS, assumed, 2, core_hashes, 1);
+    case MODEL_CALL:
+        return cefindrato_check_step(checker, CEFINDRATO_STEP_MODEL, lemma, 2, NULL, 0);
+    default:
+        return cefindrato_check_step(checker, CEFINDRATO_STEP_DELETE_REDUNDANT, lemma, 2, NULL, 0);
+    }
+}
+
+/* Whether a call answers what it answers with memory, or that the checker had failed. */
+static bool is_so(cefindrato_checker_answer told, int call, bool has_failed) {
+    if (has_failed)
+        return told.status == CEFINDRATO_NOT_RUN && told.cause == CEFINDRATO_CHECKER_FAILED;
+    return call == MODEL_CALL ? told.cause == CEFINDRATO_CHECKER_MODEL_MISSES_ASSUMPTION : told.status == CEFINDRATO_VERIFIED;
+}
+
+/* A checker with refusals, up to one that meets none. A call without memory has left it as it was, and is made again with memory; or the
+ * checker has failed within the call. */
+static void refuse_checker(bool all) {
+    long at, kept = 0, failed = 0;
+    for (at = 1;; at++) {
+        cefindrato_checker checker = {NULL, false};
+        bool has_failed = false;
+        int call;
+        growths = refusals = 0;
+        refused_at = at;
+        refuses_on = all;
+        for (call = 0; call < CHECKER_CALLS; call++) {
+            cefindrato_checker_answer told = checker_call(&checker, call);
+            if (told.status == CEFINDRATO_OUT_OF_MEMORY) {
+                refused_at = 0;
+                has_failed = told.cause == CEFINDRATO_CHECKER_FAILED;
+                kept += !has_failed;
+                failed += has_failed;
+                if (has_failed ? told.step != 0 : told.cause || told.step)
+                    wrong = 1;
+                told = checker_call(&checker, call);
+            }
+            if (!is_so(told, call, has_failed) || cefindrato_checker_unsat(&checker)) {
+                printf("checker, growth %ld, call %d: status %d, cause %d\n", at, call, told.status, told.cause);
+                wrong = 1;
+            }
+        }
+        refused_at = 0;
+        cefindrato_checker_end(&checker);
+        if (refusals == 0 || wrong)
+            break;
+    }
+    if (kept == 0 || failed == 0) {
+        printf("checker: %ld calls were kept from memory before a check, and %ld within one\n", kept, failed);
+        wrong = 1;
+    }
+}
+
 int main(void) {
     int all;
     for (all = 0; all < 2; all++) {
         refuse_session(all);
+        refuse_checker(all);
         refuse("LRAT", lrat_call, "6 1 0 2 3 0\n7 0 6 4 5 0\n", all);
         refuse("LRAT that is refused", lrat_call, "6 1 0 2 3 0\n7 0 6 4 0\n", all);
         refuse("DRAT", drat_call, "1 0\n0\n", all);

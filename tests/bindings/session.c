@@ -4,13 +4,11 @@
  *   session [LENGTH]
  */
 #include "cefindrato_session.h"
-#include <stdio.h>
+#include "sequences.h"
 #include <stdlib.h>
 #include <string.h>
 
 #define LEN(list) (sizeof(list) / sizeof(list)[0])
-
-static int wrong = 0;
 
 static void expect(const char *what, cefindrato_session_answer answer, int status, int cause, uint64_t clause) {
     if (answer.status != status || answer.cause != cause || answer.clause != clause) {
@@ -109,7 +107,6 @@ static cefindrato_session_answer library_answers(cefindrato_session *session, in
     }
 }
 
-/* Plays the calls of a sequence, which is a number whose digits they are. */
 static void play(long sequence, int length) {
     static const char *const names[] = {"begin", "end", "give first", "give second", "derive", "delete", "fails", "satisfies"};
     cefindrato_session session = {NULL, false};
@@ -126,16 +123,6 @@ static void play(long sequence, int length) {
     cefindrato_session_end(&session);
     if (session.held)
         wrong = 1;
-}
-
-static void play_all(int longest) {
-    int length;
-    long sequence, count = 1;
-    for (length = 1; length <= longest; length++) {
-        count *= CALLS;
-        for (sequence = 0; sequence < count && !wrong; sequence++)
-            play(sequence, length);
-    }
 }
 
 /* ---- single answers, over the clauses `-1 -2` (id 1) and `1` (id 2) */
@@ -180,7 +167,7 @@ static void expect_answers(cefindrato_session *session) {
 int main(int argc, char **argv) {
     cefindrato_session sessions[2];
     memset(sessions, 0, sizeof sessions);
-    play_all(argc > 1 ? atoi(argv[1]) : 6);
+    play_all(play, CALLS, argc > 1 ? atoi(argv[1]) : 6);
     expect("begin", cefindrato_session_begin(&sessions[0]), 0, 0, 0);
     expect("begin another", cefindrato_session_begin(&sessions[1]), 0, 0, 0);
     expect_answers(&sessions[0]);

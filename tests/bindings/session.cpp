@@ -1,26 +1,8 @@
 // Sessions as objects; exits 0 if each call answers what it must.
 #include "cefindrato_session.hpp"
-#include <iostream>
+#include "objects.hpp"
 
 using cefindrato::Session;
-
-static int wrong = 0;
-
-static void is_so(const char *what, bool holds) {
-    if (!holds) {
-        std::cout << what << ": it is not so\n";
-        wrong = 1;
-    }
-}
-
-template <typename Call> static bool is_refused(Call call) {
-    try {
-        call();
-        return false;
-    } catch (const std::invalid_argument &) {
-        return true;
-    }
-}
 
 int main() {
     Session session;

@@ -4,6 +4,7 @@ test.py CNF LRAT
 """
 
 import concurrent.futures
+import doctest
 import mmap
 import os
 import subprocess
@@ -70,6 +71,38 @@ def of_sessions():
         session.fails([-2], [-2], [2**64 - 1, 1])
     assert refused(session.give, 1, [1]) == "there is no session"
     session.close()
+
+
+def of_checkers():
+    ran = doctest.testmod(cefindrato.checker)
+    assert ran.attempted and not ran.failed
+    step, named = cefindrato.Step, cefindrato.clause_hash
+    with cefindrato.Checker() as checker:
+        checker.add_clause([1, 2])
+        checker.check_step(step.ADD_CLAUSE, [1, -2, 3])
+        assert refused(checker.add_clause, [0]) == refused(checker.add_clause, [2**40]) == "a number is no literal"
+        assert refused(checker.check_step, step.END, [], [-1]) == "a hash has more than 64 bits or a sign"
+        checker.check_step(step.AT_CLAUSE, [1, 3], [named([2, 1, 2]), named([-2, 3, 1])])
+        assert refused(checker.check_step, step.AT_CLAUSE, [-3], []) == "step 3: AT check failed"
+        checker.check_step(step.DELETE_SIMPLIFIED, [1, -2, 3])
+        checker.check_step(step.ASSUMPTIONS, [-1, -3, 4])
+        assert refused(checker.check_step, step.FAILED_ASSUMPTIONS, [-2]) == "step 6: failed core contains non-assumed variables"
+        checker.check_step(step.FAILED_ASSUMPTIONS, [-1, -3], [named([1, 3])])
+        assert refused(checker.check_step, step.MODEL, [2]) == "step 8: model does not contain assumption"
+        with cefindrato.Checker() as other:
+            other.check_step(step.MODEL)
+        checker.check_step(step.ASSUMPTIONS)
+        checker.check_step(step.MODEL, [3, 2])
+        assert checker.unsat() is False
+        checker.add_clause([])
+        assert checker.unsat() is True
+    assert refused(checker.add_clause, [1]) == "there is no checker" and checker.unsat() is False
+    checker.close()
+    try:
+        checker.check_step(11)
+    except ValueError:
+        return
+    raise AssertionError("11 is no kind of step")
 
 
 def of_bytes(cnf_name, text):
@@ -160,6 +193,7 @@ def main(cnf_name, proof_name):
     of_drat()
     of_models()
     of_sessions()
+    of_checkers()
     of_bytes(cnf_name, text)
     of_command(cnf_name, proof_name)
     assert cefindrato.library.version() == cefindrato.__version__

@@ -8,9 +8,11 @@
 
 These three run the proved programs, over files, texts or lists; a clause has no 0 behind it. In this process, by the library, `check` checks an LRAT proof against a
 formula's text, `check_drat` a DRAT or FRAT proof, and `check_model` a solver's answer. `Running` checks a proof that is still being
-written, and `Session` each answer of an incremental solver. A Fault says why there is no verdict.
+written, `Session` each answer of an incremental solver, and `Checker` is the ported checker of varisat's proofs. A Fault says why there
+is no verdict.
 """
 
+from .checker import Checker, Step, clause_hash
 from .faults import Fault, OutOfMemory
 from .library import Checked, Model, check, check_drat, check_model
 from .programs import check_sat, check_unsat, solve
@@ -19,16 +21,19 @@ from .session import Session
 
 __all__ = [
     "Checked",
+    "Checker",
     "Fault",
     "Model",
     "OutOfMemory",
     "Running",
     "Session",
+    "Step",
     "check",
     "check_drat",
     "check_model",
     "check_sat",
     "check_unsat",
+    "clause_hash",
     "solve",
     "where",
 ]

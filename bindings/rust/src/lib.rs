@@ -1,6 +1,7 @@
-//! Proved checkers of SAT solvers' proofs and answers, over texts in memory.
+//! Proved checkers of SAT solvers' proofs and answers, over texts in memory, and the ported [`checker`] of varisat's proofs, step by
+//! step.
 //!
-//! Nothing is kept between calls, and any number of threads may call at once.
+//! Nothing is kept between calls, except by a [`checker::Checker`], and any number of threads may call at once.
 //!
 //! ```
 //! use cefindrato::{check_drat, DratOptions, Verdict};
@@ -13,7 +14,9 @@
 #![warn(missing_docs)]
 use std::fmt;
 
+pub mod checker;
 mod library;
+mod lit;
 
 /// What an accepted proof shows.
 #[derive(Clone, Copy, Debug, PartialEq, Eq)]

@@ -1,3 +1,4 @@
 mod AcceptedCalls
+mod AcceptedSteps
 mod DratOutputs
 mod VerifiedRuns

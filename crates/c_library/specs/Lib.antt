@@ -1,3 +1,4 @@
+pub mod CheckerCalls
 pub mod DratCalls
 pub mod ModelCalls
 pub mod Rooms

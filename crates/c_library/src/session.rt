@@ -1,8 +1,8 @@
 //! Sessions of queries, each answer of which is checked as it comes.
 ghost use Rattle.std.specs.Prelude.{◌≡◌, ◌∷◌, ◌++◌, ℕ, List, [], None, Some};
 ghost use Rattle.session_rules.specs.Sessions.{Fails, Satisfies};
+ghost use Rattle.handle_parts.specs.Numbers.{lits_of};
 ghost use Rattle.session_handle.specs.Held.{given_to, state_of};
-ghost use Rattle.session_handle.specs.Numbers.{lits_of};
 ghost use Rattle.c_library.specs.SessionCalls.{IsAnswer, IsBegin, IsDelete, IsDerive, IsFails, IsGive, IsSatisfies, Outcome};
 
 use session_handle::{Session, SessionAnswer};

@@ -8,9 +8,9 @@ use Rattle.std_alloc.proofs.BoxSteps.Form.{Bx}
 use Rattle.std_heap.specs.contracts.Global as heap
 use Rattle.std_heap.specs.contracts.GlobalAllocator.TheImpl.{ghosts, dict}
 use Rattle.std_heap.proofs.Global.TheLaws as heap_laws
+use Rattle.handle_parts.specs.contracts.parts.Parts as parts
 use Rattle.session_checker.specs.contracts.checker.SessionChecker as checker
 use Rattle.session_checker.proofs.checker.SessionChecker.TheLaws as checker_laws
-use Rattle.session_handle.specs.contracts.parts.Parts as parts
 use Rattle.session_handle.specs.contracts.slot.Slot as slot
 
 abbrev pub E : Bx

@@ -2,17 +2,19 @@
 --     Rejection      the causes
 --     begin_cause, give_cause, derive_cause, delete_cause, fails_cause, satisfies_cause      of each call
 --     fault_of fault      a fault of the checker
---     IsUnread fault readable      some number is no literal, or memory ran out
+--     unread fault      a fault of the numbers
 --     IsFault fault o      the call is rejected for the cause, or memory ran out
-use Rattle.std.specs.Prelude.{◌≡◌, ℕ, ℤ, Bool, true, false, ◌&&◌, if◌then◌else◌, List, Option, Some, None}
+use Rattle.std.specs.Prelude.{◌≡◌, ℕ, ℤ, Bool, true, ◌&&◌, if◌then◌else◌, List, Option, Some, None}
 use Rattle.std.specs.Option.{option_map}
+use Rattle.handle_parts.specs.Numbers.{are_lits, lits_of}
+use Rattle.handle_parts.specs.declared.lits.LitsFault.{LitsFault}
+use Rattle.handle_parts.specs.declared.lits.LitsFault.TheVariants as lits
 use Rattle.session_checker.specs.Causes.{refusal_of}
 use Rattle.session_checker.specs.Held.{given_by, named_by}
 use Rattle.session_checker.specs.Refusals.{Refusal, core_cause, id_cause, lemma_cause, model_cause}
 use Rattle.session_checker.specs.declared.checker.SessionChecker.{SessionChecker}
 use Rattle.session_checker.specs.declared.fault.SessionFault.{SessionFault}
 use Rattle.session_checker.specs.declared.fault.SessionFault.TheVariants as checker
-use Rattle.session_handle.specs.Numbers.{are_lits, lits_of}
 use Rattle.session_handle.specs.declared.fault.HandleFault.{HandleFault}
 use Rattle.session_handle.specs.declared.fault.HandleFault.TheVariants.{Begun, NoLit, NoSession, OutOfMemory, Refused}
 
@@ -58,13 +60,10 @@ abbrev pub fault_of : SessionFault → HandleFault
 fault_of (checker.Refused cause) = Refused cause
 fault_of checker.OutOfMemory = OutOfMemory
 
--- some number is no literal, or memory ran out
-abbrev pub IsUnread : HandleFault → Bool → Type 0
-IsUnread NoSession readable = ⊥
-IsUnread Begun readable = ⊥
-IsUnread NoLit readable = readable ≡ false
-IsUnread (Refused cause) readable = ⊥
-IsUnread OutOfMemory readable = Unit {0}
+-- a fault of the numbers as one of the call
+abbrev pub unread : LitsFault → HandleFault
+unread lits.NoLit = NoLit
+unread lits.OutOfMemory = OutOfMemory
 
 -- the call is rejected for the cause, or memory ran out
 abbrev pub IsFault : HandleFault → Option Rejection → Type 0

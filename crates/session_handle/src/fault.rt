@@ -2,6 +2,7 @@
 ghost use Rattle.std.specs.Prelude.{◌≡◌};
 ghost use Rattle.session_handle.specs.declared.fault.HandleFault.TheVariants as faults;
 
+use handle_parts::lits::LitsFault;
 use session_checker::{SessionCause, SessionFault};
 use std::alloc::{AllocError, AllocFailed};
 
@@ -29,6 +30,19 @@ impl From<SessionFault> for HandleFault {
         match fault {
             SessionFault::Refused(cause) => HandleFault::Refused(cause),
             SessionFault::OutOfMemory => HandleFault::OutOfMemory,
+        }
+    }
+}
+
+impl From<LitsFault> for HandleFault {
+    ghost use Rattle.session_handle.specs.Causes.{unread};
+
+    ghost from_gives = { λ fault r. r ≡ unread fault };
+
+    fn from(fault: LitsFault) -> HandleFault {
+        match fault {
+            LitsFault::NoLit => HandleFault::NoLit,
+            LitsFault::OutOfMemory => HandleFault::OutOfMemory,
         }
     }
 }

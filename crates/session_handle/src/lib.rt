@@ -4,8 +4,6 @@
 
 mod answer;
 mod fault;
-mod lits;
-mod parts;
 mod session;
 mod slot;
 

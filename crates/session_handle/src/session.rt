@@ -2,13 +2,13 @@
 ghost use Rattle.std.specs.Prelude.{◌≡◌, ◌∷◌, ◌++◌, ◌==◌, ℕ, List, [], None, Some, is_some, if◌then◌else◌, IfErr, OnErr, OnOk};
 ghost use Rattle.std.specs.Option.{option_map};
 ghost use Rattle.sat_rules.specs.Clauses.{has};
+ghost use Rattle.handle_parts.specs.Numbers.{lits_of};
 ghost use Rattle.session_rules.specs.Sessions.{Fails, Satisfies};
 ghost use Rattle.session_handle.specs.Causes.{IsFault, begin_cause, delete_cause, derive_cause, fails_cause, give_cause, satisfies_cause};
-ghost use Rattle.session_handle.specs.Numbers.{lits_of};
 
 use crate::fault::HandleFault;
-use crate::lits::read_lits;
 use crate::slot::Slot;
+use handle_parts::lits::read_lits;
 use session_checker::SessionChecker;
 use std::alloc::Global;
 

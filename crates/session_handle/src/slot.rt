@@ -3,7 +3,7 @@ ghost use Rattle.std.specs.Prelude.{◌≡◌, true, None, Some, Option, is_some
 ghost use Rattle.session_checker.specs.declared.checker.SessionChecker.{SessionChecker};
 ghost use Rattle.session_handle.specs.Places.{place_code};
 
-use crate::parts::Parts;
+use handle_parts::parts::Parts;
 use session_checker::SessionChecker;
 use std::alloc::{Allocator, Global};
 use std::marker::Model;

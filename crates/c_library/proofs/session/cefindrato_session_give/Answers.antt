@@ -1,6 +1,6 @@
 use Rattle.std.proofs.Common.{◌∷◌, ◌++◌, [], ap, sym, ◌∙◌}
 use Rattle.std.specs.Option.{option_map}
-use Rattle.session_handle.specs.Numbers.{lits_of}
+use Rattle.handle_parts.specs.Numbers.{lits_of}
 use Rattle.c_library.proofs.AcceptedCalls.{accepted}
 use Rattle.c_library.proofs.session.cefindrato_session_give.Goals as goal
 

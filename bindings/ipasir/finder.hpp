@@ -1,0 +1,272 @@
+// Hints for the lemmas that the answers of a solver rest on, where the solver gives none.
+//
+// The solver tells of its lemmas and of what it deletes. Nothing is done for a lemma until a core needs it: then it is refuted by
+// propagation over what stands before it, what was deleted since with it, and so on backward; and the checker derives those that were
+// needed, and no others, in their order. A literal that is true by propagation alone is derived as a lemma of its own. Nothing here
+// has to be right for an answer to be: hints that are wrong are refused.
+//
+// A deletion is advice. Where a refutation fails, it is tried again with all that is kept of what was deleted, since a solver may
+// restore a clause without telling. Once much is dead, all that lives is derived, and the dead are forgotten.
+#pragma once
+#include "refutation.hpp"
+#include <functional>
+#include <queue>
+#include <string>
+
+// How many literals of deleted clauses are kept at least.
+#ifndef DEAD_LITERALS
+#define DEAD_LITERALS (std::size_t{1} << 22)
+#endif
+
+namespace cefindrato_ipasir {
+
+class Finder {
+  public:
+    // Derives a lemma in the checker, and says by which id; 0 if it is refused.
+    using Derive = std::function<uint64_t(const Literals &, const Ids &)>;
+
+    explicit Finder(Derive derive) : derive_(std::move(derive)) {}
+    Finder(const Finder &) = delete;
+    Finder &operator=(const Finder &) = delete;
+
+    void given(uint64_t id, const Literals &clause) { add(clause, id, true); }
+    void lemma(const Literals &clause) { add(clause, 0, false); }
+
+    void deletion(const Literals &clause) {
+        if (clause.size() > 1 && !is_tautology(clause)) {
+            Place found = clauses_.find(distinct_, [](const Clause &it) { return it.died == NEVER; });
+            if (found != NEVER) {
+                refutation_.die(found);
+            }
+        }
+    }
+
+    // Finds hints for a core, and derives what they name. If it can't, `fault()` says why.
+    bool core(const Literals &core, Ids &hints) {
+        hints.clear();
+        refutation_.see(core);
+        refutation_.settle();
+        if (contradiction_) {
+            hints.push_back(contradiction_);
+            return true;
+        }
+        Refs top;
+        if (refutation_.is_contradictory()) {
+            refutation_.explain(refutation_.conflict(), top);
+        } else if (!refutation_.refute(core, NEVER, top)) {
+            fault_ = "propagation finds no conflict for the core";
+            refutation_.finish();
+            return false;
+        }
+        if (!derive_all(top)) {
+            return false;
+        }
+        for (Ref ref : top) {
+            hints.push_back(id(ref));
+        }
+        if (refutation_.is_contradictory()) {
+            contradiction_ = derive_({}, hints);
+            hints = {contradiction_};
+        }
+        return true;
+    }
+
+    const std::string &fault() const { return fault_; }
+
+    // Whether so much is dead that it should be forgotten.
+    bool is_full() const { return !contradiction_ && clauses_.dead_literals() > std::max(limit_, 2 * clauses_.live_literals()); }
+
+    // A dead lemma with these literals may live again: it is kept when the dead are forgotten next.
+    void keep(const Literals &clause) {
+        if (!is_tautology(clause)) {
+            Place found = clauses_.find(distinct_, [](const Clause &it) { return it.died != NEVER && !it.is_kept; });
+            if (found != NEVER) {
+                clauses_[found].is_kept = true;
+            }
+        }
+    }
+
+    // Derives all that lives or is kept, and forgets the rest. Returns the ids that are needed no longer.
+    Ids forget() {
+        refutation_.settle();
+        Refs left;
+        for (Place place = 0; place < clauses_.count(); place++) {
+            if (is_left(place) && !clauses_[place].id) {
+                left.push_back({place, 0});
+            }
+        }
+        Ids gone, kept;
+        if (refutation_.is_contradictory() || !derive_all(left)) {
+            limit_ *= 2;
+            return gone;
+        }
+        for (Place place = 0; place < clauses_.count(); place++) {
+            (is_left(place) ? kept : gone).push_back(clauses_[place].id);
+        }
+        clauses_.keep([this](Place place) { return is_left(place); });
+        refutation_.begin_again();
+        std::sort(kept.begin(), kept.end());
+        gone.erase(std::remove_if(gone.begin(), gone.end(),
+                                  [&](uint64_t id) { return !id || std::binary_search(kept.begin(), kept.end(), id); }),
+                   gone.end());
+        return gone;
+    }
+
+  private:
+    // A lemma, and where its hints stand in `hints_`.
+    struct Step {
+        Ref ref;
+        std::size_t begin, end;
+    };
+
+    // Whether a clause has opposite literals. If not, `distinct_` has each of its literals once.
+    bool is_tautology(const Literals &clause) {
+        distinct_.clear();
+        bool is_found = false;
+        for (int literal : clause) {
+            if (marks_.size() <= code(literal) + 1) {
+                marks_.resize(2 * code(literal) + 2, 0);
+            }
+            is_found |= marks_[code(-literal)];
+            if (!marks_[code(literal)]) {
+                marks_[code(literal)] = 1;
+                distinct_.push_back(literal);
+            }
+        }
+        for (int literal : distinct_) {
+            marks_[code(literal)] = 0;
+        }
+        return is_found;
+    }
+
+    void add(const Literals &clause, uint64_t id, bool is_given) {
+        if (!contradiction_ && !is_tautology(clause)) {
+            refutation_.see(distinct_);
+            clauses_.add(distinct_, id, is_given);
+        }
+    }
+
+    bool is_left(Place place) const { return clauses_[place].died == NEVER || clauses_[place].is_kept; }
+
+    // Derives what is named, and all that it needs.
+    bool derive_all(const Refs &top) {
+        steps_.clear();
+        hints_.clear();
+        for (Ref ref : top) {
+            require(ref);
+        }
+        bool is_found = true;
+        while (is_found && !needed_.empty()) {
+            Step step{needed_.top().ref, hints_.size(), 0};
+            needed_.pop();
+            is_found = find(step.ref);
+            step.end = hints_.size();
+            steps_.push_back(step);
+            for (std::size_t at = step.begin; at < step.end; at++) {
+                require(hints_[at]);
+            }
+        }
+        for (; !needed_.empty(); needed_.pop()) {
+            set_needed(needed_.top().ref, false);
+        }
+        for (const Step &step : steps_) {
+            set_needed(step.ref, false);
+        }
+        refutation_.finish();
+        for (; is_found && !steps_.empty(); steps_.pop_back()) {
+            is_found = derive(steps_.back());
+        }
+        refutation_.restore(is_found);
+        return is_found;
+    }
+
+    void require(Ref ref) {
+        if (!id(ref) && !is_needed(ref)) {
+            set_needed(ref, true);
+            needed_.push({ref, refutation_.at(ref)});
+        }
+    }
+
+    bool is_needed(Ref ref) { return ref.unit ? units_[variable(ref)].is_needed : clauses_[ref.place].is_needed; }
+
+    void set_needed(Ref ref, bool is_needed) {
+        if (ref.unit) {
+            units_[variable(ref)].is_needed = is_needed;
+        } else {
+            clauses_[ref.place].is_needed = is_needed;
+        }
+    }
+
+    // Adds the hints of a lemma.
+    bool find(Ref ref) {
+        if (ref.unit) {
+            refutation_.reasons(ref, hints_);
+            return true;
+        }
+        lemma_ = clauses_.copy(ref.place);
+        for (int &literal : lemma_) {
+            literal = -literal;
+        }
+        if (refutation_.refute(lemma_, ref.place, hints_)) {
+            return true;
+        }
+        fault_ = "propagation finds no conflict for a lemma of the solver";
+        return false;
+    }
+
+    bool derive(const Step &step) {
+        ids_.clear();
+        for (std::size_t at = step.begin; at < step.end; at++) {
+            ids_.push_back(id(hints_[at]));
+        }
+        lemma_ = step.ref.unit ? Literals{step.ref.unit} : clauses_.copy(step.ref.place);
+        uint64_t id = derive_(lemma_, ids_);
+        (step.ref.unit ? units_[variable(step.ref)].id : clauses_[step.ref.place].id) = id;
+        if (!id) {
+            fault_ = "the checker refuses a lemma of the solver";
+        }
+        return id;
+    }
+
+    static std::size_t variable(Ref ref) { return static_cast<std::size_t>(std::abs(ref.unit)); }
+
+    // The id by which the checker knows it, or 0.
+    uint64_t id(Ref ref) {
+        if (!ref.unit) {
+            return clauses_[ref.place].id;
+        }
+        if (units_.size() <= variable(ref)) {
+            units_.resize(2 * variable(ref), {0, false});
+        }
+        return units_[variable(ref)].id;
+    }
+
+    // The last in the order of the session is first.
+    struct Needed {
+        Ref ref;
+        uint32_t at;
+        bool operator<(const Needed &other) const { return ref.place != other.ref.place ? ref.place < other.ref.place : at < other.at; }
+    };
+
+    // A literal that is true by propagation alone: the id of the lemma that says so.
+    struct Unit {
+        uint64_t id;
+        bool is_needed;
+    };
+
+    Derive derive_;
+    Clauses clauses_;
+    Refutation refutation_{clauses_};
+    std::priority_queue<Needed> needed_;
+    std::vector<Step> steps_;
+    Refs hints_;
+    std::vector<Unit> units_;
+    std::vector<char> marks_;
+    Literals distinct_, lemma_;
+    Ids ids_;
+    std::size_t limit_ = DEAD_LITERALS;
+    uint64_t contradiction_ = 0;
+    std::string fault_;
+};
+
+} // namespace cefindrato_ipasir

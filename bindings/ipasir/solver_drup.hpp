@@ -1,0 +1,141 @@
+// CaDiCaL as Debian has it (1.5.3): its lemmas come as DRUP in memory, without hints, which a finder looks for.
+#pragma once
+#include "finder.hpp"
+#include "session.hpp"
+#include <cadical.hpp>
+#include <cstdio>
+
+namespace cefindrato_ipasir {
+
+// Reads binary DRUP, as it is written.
+class Proof {
+  public:
+    explicit Proof(Finder &finder) : finder_(finder) {
+        cookie_io_functions_t calls = {nullptr, write, nullptr, nullptr};
+        file_ = fopencookie(this, "w", calls);
+        if (!file_) {
+            std::perror("cefindrato: a proof in memory");
+            std::_Exit(1);
+        }
+        std::setvbuf(file_, nullptr, _IOFBF, 1 << 16);
+    }
+    ~Proof() { std::fclose(file_); }
+    Proof(const Proof &) = delete;
+    Proof &operator=(const Proof &) = delete;
+
+    std::FILE *file() { return file_; }
+
+  private:
+    static ssize_t write(void *proof, const char *bytes, size_t length) {
+        Proof &own = *static_cast<Proof *>(proof);
+        for (const char *it = bytes, *end = bytes + length; it != end; it++) {
+            own.read(static_cast<unsigned char>(*it));
+        }
+        return static_cast<ssize_t>(length);
+    }
+
+    void read(unsigned char byte) {
+        if (!kind_) {
+            kind_ = byte;
+            return;
+        }
+        number_ |= static_cast<uint64_t>(byte & 127) << shift_;
+        shift_ += 7;
+        if (byte & 128) {
+            return;
+        }
+        if (number_) {
+            step_.push_back(number_ & 1 ? -static_cast<int>(number_ >> 1) : static_cast<int>(number_ >> 1));
+        } else {
+            kind_ == 'd' ? finder_.deletion(step_) : finder_.lemma(step_);
+            step_.clear();
+            kind_ = 0;
+        }
+        number_ = shift_ = 0;
+    }
+
+    Finder &finder_;
+    std::FILE *file_;
+    unsigned char kind_ = 0;
+    uint64_t number_ = 0;
+    unsigned shift_ = 0;
+    Literals step_;
+};
+
+class Solver : CaDiCaL::WitnessIterator {
+  public:
+    CaDiCaL::Solver cadical;
+
+    explicit Solver(Session &session)
+        : session_(session), finder_([this](const Literals &lemma, const Ids &hints) { return derive(lemma, hints); }), proof_(finder_) {
+        cadical.set("quiet", 1);
+        cadical.trace_proof(proof_.file(), "memory");
+    }
+    ~Solver() { cadical.close_proof_trace(); }
+
+    // Ends a clause of the application, whose literals the solver has.
+    void give(const Literals &clause) {
+        session_.give(++last_, clause);
+        finder_.given(last_, clause);
+        cadical.add(0);
+    }
+
+    int solve() { return cadical.solve(); }
+
+    // Which variables are true.
+    void read_model(std::vector<bool> &values) {
+        for (std::size_t variable = 1; variable < values.size(); variable++) {
+            values[variable] = cadical.val(static_cast<int>(variable)) > 0;
+        }
+    }
+
+    // Whether a core was shown; if not, why.
+    bool show_core(const Literals &assumed, const Literals &core, std::string &cause) {
+        cadical.flush_proof_trace();
+        Ids hints;
+        refused_.clear();
+        if (!finder_.core(core, hints)) {
+            cause = finder_.fault() + (refused_.empty() ? "" : ": " + refused_);
+            return false;
+        }
+        bool is_shown = session_.fails(assumed, core, hints);
+        cause = session_.cause();
+        return is_shown;
+    }
+
+    // After an answer: forgets what is needed no longer.
+    void rest() {
+        if (finder_.is_full()) {
+            cadical.flush_proof_trace();
+            cadical.traverse_witnesses_backward(*this);
+            session_.remove(finder_.forget());
+        }
+    }
+
+  private:
+    // (of these calls each version of CaDiCaL has one)
+    virtual bool witness(const Literals &clause, const Literals &) { return keep(clause); }
+    virtual bool witness(const Literals &clause, const Literals &, uint64_t) { return keep(clause); }
+    virtual bool witness(const Literals &clause, const Literals &, int64_t) { return keep(clause); }
+
+    bool keep(const Literals &clause) {
+        finder_.keep(clause);
+        return true;
+    }
+
+    uint64_t derive(const Literals &lemma, const Ids &hints) {
+        if (session_.derive(++last_, lemma, hints)) {
+            return last_;
+        }
+        refused_ = session_.cause();
+        return 0;
+    }
+
+    Session &session_;
+    Finder finder_;
+    Proof proof_;
+    uint64_t last_ = 0;
+    std::string refused_;
+};
+
+} // namespace cefindrato_ipasir

@@ -1,0 +1,136 @@
+// CaDiCaL 2 and later: its tracer tells ids and hints, and nothing has to be looked for.
+//
+// Its versions have different types of ids, and some add a witness: of the calls below those that a version has override its own.
+#pragma once
+#include "session.hpp"
+#include <cadical.hpp>
+#if __has_include(<tracer.hpp>)
+#include <tracer.hpp>
+#else
+#include <cadical/tracer.hpp>
+#endif
+
+namespace cefindrato_ipasir {
+
+class Solver : CaDiCaL::Tracer {
+  public:
+    CaDiCaL::Solver cadical;
+
+    explicit Solver(Session &session) : session_(session) {
+        cadical.set("quiet", 1);
+        // (a definition of a new variable does not follow; versions without the option ignore it)
+        cadical.set("factor", 0);
+        cadical.connect_proof_tracer(static_cast<CaDiCaL::Tracer *>(this), true);
+    }
+    ~Solver() { cadical.disconnect_proof_tracer(static_cast<CaDiCaL::Tracer *>(this)); }
+    Solver(const Solver &) = delete;
+    Solver &operator=(const Solver &) = delete;
+
+    // Ends a clause of the application, whose literals the solver has. It tells the id alone.
+    void give(const Literals &clause) {
+        given_ = &clause;
+        cadical.add(0);
+        if (given_) {
+            session_.give(++own_, clause);
+            given_ = nullptr;
+        }
+    }
+
+    int solve() {
+        conclusion_.clear();
+        model_.clear();
+        return cadical.solve();
+    }
+
+    // Which variables are true, as it told of all at once while it solved, or tells of each.
+    void read_model(std::vector<bool> &values) {
+        if (model_.empty()) {
+            for (std::size_t variable = 1; variable < values.size(); variable++) {
+                values[variable] = cadical.val(static_cast<int>(variable)) > 0;
+            }
+        }
+        for (int literal : model_) {
+            if (literal > 0 && static_cast<std::size_t>(literal) < values.size()) {
+                values[static_cast<std::size_t>(literal)] = true;
+            }
+        }
+    }
+
+    // Whether a core was shown; if not, why.
+    bool show_core(const Literals &assumed, const Literals &core, std::string &cause) {
+        cadical.conclude();
+        bool is_shown = session_.fails(assumed, core, conclusion_);
+        cause = session_.cause() + (fault_.empty() ? "" : ", after " + fault_);
+        return is_shown;
+    }
+
+    void rest() {}
+
+    virtual void add_original_clause(uint64_t id, bool, const Literals &, bool is_restored = false) { give(id, is_restored); }
+    virtual void add_original_clause(int64_t id, bool, const Literals &, bool is_restored = false) { give(id, is_restored); }
+
+    virtual void add_derived_clause(uint64_t id, bool, const Literals &clause, const std::vector<uint64_t> &chain) {
+        derive(id, clause, chain);
+    }
+    virtual void add_derived_clause(int64_t id, bool, const Literals &clause, const std::vector<int64_t> &chain) {
+        derive(id, clause, chain);
+    }
+    virtual void add_derived_clause(int64_t id, bool, int, const Literals &clause, const std::vector<int64_t> &chain) {
+        derive(id, clause, chain);
+    }
+
+    virtual void add_assumption_clause(uint64_t id, const Literals &clause, const std::vector<uint64_t> &chain) {
+        derive(id, clause, chain);
+    }
+    virtual void add_assumption_clause(int64_t id, const Literals &clause, const std::vector<int64_t> &chain) {
+        derive(id, clause, chain);
+    }
+
+    virtual void delete_clause(uint64_t id, bool, const Literals &) { remove(id); }
+    virtual void delete_clause(int64_t id, bool, const Literals &) { remove(id); }
+
+    // It may come again, by the same id.
+    virtual void weaken_minus(uint64_t id, const Literals &) { weakened_.insert(id); }
+    virtual void weaken_minus(int64_t id, const Literals &) { weakened_.insert(static_cast<uint64_t>(id)); }
+
+    virtual void conclude_sat(const Literals &model) { model_ = model; }
+
+    virtual void conclude_unsat(CaDiCaL::ConclusionType, const std::vector<uint64_t> &ids) { conclude(ids); }
+    virtual void conclude_unsat(CaDiCaL::ConclusionType, const std::vector<int64_t> &ids) { conclude(ids); }
+
+  private:
+    template <class Id> void give(Id id, bool is_restored) {
+        if (is_restored) {
+            weakened_.erase(static_cast<uint64_t>(id));
+        } else if (given_) {
+            session_.give(static_cast<uint64_t>(id), *given_);
+            given_ = nullptr;
+        }
+    }
+
+    template <class Id> void derive(Id id, const Literals &clause, const std::vector<Id> &chain) {
+        hints_.assign(chain.begin(), chain.end());
+        if (!session_.derive(static_cast<uint64_t>(id), clause, hints_) && fault_.empty()) {
+            fault_ = session_.cause() + " (lemma " + std::to_string(id) + ")";
+        }
+    }
+
+    template <class Id> void remove(Id id) {
+        if (!weakened_.count(static_cast<uint64_t>(id))) {
+            session_.remove({static_cast<uint64_t>(id)});
+        }
+    }
+
+    template <class Id> void conclude(const std::vector<Id> &ids) { conclusion_.assign(ids.begin(), ids.end()); }
+
+    Session &session_;
+    const Literals *given_ = nullptr;
+    Literals model_;
+    std::unordered_set<uint64_t> weakened_;
+    Ids hints_, conclusion_;
+    // ids of clauses that the solver tells none of
+    uint64_t own_ = uint64_t{1} << 62;
+    std::string fault_;
+};
+
+} // namespace cefindrato_ipasir

@@ -1,0 +1,6 @@
+pub mod Answers
+pub mod Calls
+pub mod Held
+pub mod Places
+pub mod States
+pub mod Steps
