@@ -1,7 +1,7 @@
 #!/usr/bin/env bash
 # Circuits in AIGER, and `circuit_check` on them: random circuits and texts that are nearly ones, by tests/circuit_check/circuits.py;
-# names of inputs and outputs, by tests/circuit_check/names.py; random machines and invariants, by tests/circuit_check/machines.py; and
-# a machine in Verilog with the invariant of a model checker.
+# names of inputs and outputs, by tests/circuit_check/names.py; random machines and invariants, by tests/circuit_check/machines.py, and
+# stimuli, by tests/circuit_check/stimuli.py; and a machine in Verilog with the invariant of a model checker.
 # It uses cadical, yosys and berkeley-abc, if they are installed.
 #
 #   tests/circuit_check.sh [COUNT [SEED]]
@@ -88,8 +88,14 @@ trap 'rm -rf "$work"' EXIT
     "$check" safe one.aig two.aig --answer answer
   ends 1 'a circuit with latches, bad outputs or constraints' "$check" never latch.aig --answer answer
   ends 1 'a circuit with latches, bad outputs or constraints' "$check" same one.aig latch.aig --answer answer
-  ends 1 'the circuits have different numbers of inputs' "$check" same one.aig input.aig --answer answer
-  ends 1 'the circuits have different numbers of outputs' "$check" same one.aig outputs.aig --answer answer
+  for option in '--answer answer' '--formula formula' '--proof proof'; do
+    # shellcheck disable=SC2086 # several words
+    {
+      ends 1 'the circuits have different numbers of inputs' "$check" same one.aig input.aig $option
+      ends 1 'the circuits have different numbers of outputs' "$check" same one.aig outputs.aig $option
+      ends 1 'the circuits have different numbers of outputs' "$check" same outputs.aig one.aig $option
+    }
+  done
   ends 2 'cannot open absent' "$check" never one.aig --answer absent
 )
 # An arbiter by yosys and its invariant by berkeley-abc: the machine is safe, and without any one of its cubes nothing shows it.
@@ -114,10 +120,12 @@ if [[ $(command -v yosys berkeley-abc cadical | wc -l) == 3 ]]; then
     grep '^[01-]* 1$' cubes > all
     python3 -B "$top/tests/circuit_check/invariant.py" arbiter.aig all invariant.aig
     shown "s VERIFIED SAFE"
-    sed 1d all > fewer
-    python3 -B "$top/tests/circuit_check/invariant.py" arbiter.aig fewer invariant.aig
-    shown "s NOT VERIFIED"
-    echo "arbiter: $(wc -l < all) cubes"
+    for number in $(seq "$(wc -l < all)"); do
+      sed "${number}d" all > fewer
+      python3 -B "$top/tests/circuit_check/invariant.py" arbiter.aig fewer invariant.aig
+      shown "s NOT VERIFIED"
+    done
+    echo "arbiter: $(wc -l < all) cubes, and without each of them"
     # two inputs of a design in the other order: yosys names them, and no proof shows that it is the same
     for ports in 'a, b' 'b, a'; do
       echo "module m(input $ports, output y); assign y = a & ~b; endmodule" > ports.v
@@ -134,4 +142,5 @@ else
 fi
 python3 -B "$top/tests/circuit_check/names.py" "$check" "${1:-100}" "${2:-1}"
 python3 -B "$top/tests/circuit_check/machines.py" "$check" "${1:-60}" "${2:-1}"
+python3 -B "$top/tests/circuit_check/stimuli.py" "$check" "${1:-200}" "${2:-1}"
 python3 -B "$top/tests/circuit_check/circuits.py" "$check" "${1:-200}" "${2:-1}"

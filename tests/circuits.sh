@@ -92,11 +92,12 @@ design multiplier 'chparam -set N 5 multiplier'
 ends 20 's VERIFIED SAME' checked --sweep-after 0 --same lazy_text multiplier.aig multiplier.new.aig
 ends 20 's VERIFIED NEVER' checked --sweep-after 0 --never lazy sums.aig
 
-# A wrong gate: both by the solver and by way of equal gates the verdict is that the circuits differ
-for number in 1 7 40; do
-  python3 -B "$top/tests/circuits/turned.py" write multiplier.new.aig turned.aig "$number"
+# A wrong gate, or an output that is always false: both by the solver and by way of equal gates the verdict is that the circuits differ
+for change in 'write 1' 'write 7' 'write 40' last; do
+  read -r kind number <<< "$change"
+  python3 -B "$top/tests/circuits/turned.py" "$kind" multiplier.new.aig turned.aig ${number:+"$number"}
   if are_equal multiplier.aig turned.aig; then
-    echo "the gate $number does not matter"
+    echo "$change does not matter"
     wrong=1
   fi
   for call in cadical '--sweep-after 0 lazy'; do
@@ -104,9 +105,15 @@ for number in 1 7 40; do
     # shellcheck disable=SC2086 # several words
     checked --limit 300 --same $call multiplier.aig turned.aig > verdict 2> err || status=$?
     if [[ $status != 10 ]] || ! python3 -B "$top/tests/circuits/turned.py" judge multiplier.aig turned.aig < verdict; then
-      echo "gate $number, $call: status $status, $(cat verdict err)"
+      echo "$change, $call: status $status, $(cat verdict err)"
       wrong=1
     fi
   done
 done
+python3 -B "$top/tests/circuits/turned.py" fewer multiplier.new.aig fewer.aig
+ends 2 '' checked --same cadical multiplier.aig fewer.aig
+if ! grep -q 'the circuits have different numbers of outputs' err; then
+  echo "an output that is left out: $(cat err)"
+  wrong=1
+fi
 exit "$wrong"

@@ -4,9 +4,9 @@
 #
 #   tests/portable.sh [--pictures FOLDER] [NAME..]
 #
-# NAME is `lrat_check` if none is named. The program must be built, and its module be beside it, as `tools/portable.sh --module NAME`
-# leaves it. It uses what is there of node, gcc, clang, tcc, qemu-aarch64 and chromium, and says what is not. FOLDER gets pictures of
-# the page.
+# NAMEs are `lrat_check` and `circuit_check` if none is named. The programs must be built, and their modules be beside them, as
+# `tools/portable.sh --module NAME..` leaves them. It uses what is there of node, gcc, clang, tcc, qemu-aarch64 and chromium, and says
+# what is not. FOLDER gets pictures of the page.
 set -euo pipefail
 
 top=$(cd "$(dirname "$0")/.." && pwd)
@@ -20,7 +20,7 @@ if [[ ${1:-} == --pictures ]]; then
 fi
 names=("$@")
 if ((${#names[@]} == 0)); then
-  names=(lrat_check)
+  names=(lrat_check circuit_check)
 fi
 wrong=0
 

@@ -137,6 +137,9 @@ def refuse(runs):
         (machine, aiger.Circuit(2, outputs=[1], bad=[1]), shape),
         (machine, aiger.Circuit(2, outputs=[1], constraints=[1]), shape),
         (aiger.Circuit(1, latches=[(4, 2, 0)]), holds, "the machine has no outputs that could be bad\n"),
+        # where two apply, the first one is told
+        (machine, aiger.Circuit(1), shape),
+        (aiger.Circuit(1, latches=[(4, 2, 0)]), aiger.Circuit(1), "the machine has no outputs that could be bad\n"),
         (cut, holds, "circuit: line 2: the text ends too early\n"),
         (machine, cut, "second circuit: line 2: the text ends too early\n"),
     ]

@@ -1,6 +1,8 @@
-"""Circuits with a wrong gate, and what a verdict on them says, by another hand's simulation.
+"""Circuits with a wrong gate or output, and what a verdict on them says, by another hand's simulation.
 
 turned.py write CIRCUIT OUT N       the circuit with a literal of its N-th last gate negated
+turned.py last CIRCUIT OUT          the circuit with the constant as its last output
+turned.py fewer CIRCUIT OUT         the circuit without its last output
 turned.py judge A B < OUTPUT        whether OUTPUT is `s VERIFIED DIFFERENT`, the inputs, and the outputs of both for them, which differ
 turned.py judge A < OUTPUT          the same of `s VERIFIED POSSIBLE`: some output is true
 """
@@ -21,6 +23,12 @@ def turned(circuit, number):
     """The same circuit, but that a gate reads the negation of its first literal, with its literals in order."""
     out, left, right = circuit.gates[-number]
     circuit.gates[-number] = (out, *sorted((left ^ 1, right), reverse=True))
+    return circuit
+
+
+def with_last(circuit, outputs):
+    """The same circuit, but that these stand in place of its last output."""
+    circuit.outputs[-1:] = outputs
     return circuit
 
 
@@ -47,10 +55,11 @@ def judged(names, lines):
 
 
 def main(call, *words):
-    if call == "write":
-        name, to, number = words
+    if call in ("write", "last", "fewer"):
+        name, to, *number = words
+        circuit = turned(read(name), int(*number)) if number else with_last(read(name), [0] if call == "last" else [])
         with open(to, "wb") as file:
-            file.write(aiger.write(turned(read(name), int(number))))
+            file.write(aiger.write(circuit))
         return 0
     lines = sys.stdin.read().splitlines()
     why = judged(words, lines)

@@ -14,6 +14,12 @@ FOUR = b"p cnf 2 4\n1 2 0\n1 -2 0\n-1 2 0\n-1 -2 0\n"
 GATE = b"aig 3 2 0 1 1\n6\n\2\2"
 FALSE = b"aig 2 1 0 1 1\n4\n\1\1"
 TEXT = "aag 3 2 0 1 1\n2\n4\n6\n6 4 2\n"
+FALSE_TEXT = "aag 2 1 0 1 1\n2\n4\n4 2 3\n"
+# the conjunction with an input negated, with two outputs, with a latch, and with names of inputs that differ
+OTHER_GATE = b"aig 3 2 0 1 1\n6\n\1\3"
+TWO = b"aig 3 2 0 2 1\n6\n2\n\2\2"
+LATCH = b"aig 1 0 1 1 0\n2\n2\n"
+NAMED = GATE + b"i1 x\n", GATE + b"i1 y\n"
 OTHER = b"p cnf 3 3\n1 2 0\n-1 3 0\n-2 -3 0\n"
 TOO_LARGE = 2**31 + 1
 VERIFIED = "s VERIFIED UNSAT"
@@ -58,16 +64,31 @@ def main(data, folder, *names):
         ],
     }
     gate, false = file("gate.aig", GATE), file("false.aig", FALSE)
+    equal, nothing = file("equal", b"-5 0\n0\n"), file("nothing", b"")
+    named = [file(f"named{i}.aig", text) for i, text in enumerate(NAMED)]
+    shown = "Both circuits have the same outputs"
     wanted = [["one.aag", TEXT], ["equal", "-5 0\n0\n"], ["two.aag", TEXT]]
     each["circuit_check"] = [
         case("never", [false, file("never", b"0\n")], "s VERIFIED NEVER", "No input makes an output"),
-        case("never", [gate, file("open", b"")], "s NOT VERIFIED", "shows nothing of the circuit"),
+        case("never", [file("false.aag", FALSE_TEXT.encode()), file("binary", b"a\0")], "s VERIFIED NEVER", "No input makes an output"),
+        case("never", [gate, nothing], "s NOT VERIFIED", "shows nothing of the circuit"),
+        case("never", [gate, file("wrong", b"1 0\n0\n")], REFUSED, "proof: step 1: clause neither follows nor is redundant"),
+        case("never", [file("cut.aig", GATE[:-1]), nothing], REFUSED, "circuit: gate of variable 3: the text ends too early"),
+        case("never", [file("latch.aig", LATCH), nothing], REFUSED, "a circuit with latches, bad outputs or constraints"),
+        case("never", [equal, gate], "The files are the wrong way round", "gate.aig begins as a circuit does"),
+        case("never", [file("gate.aig.gz", gzip.compress(GATE)), nothing], "gate.aig.gz is packed", "It begins as a file of gzip"),
+        case("never", [gate], "Two files are needed", "Choose the circuit"),
         case("never", [], "s VERIFIED NEVER", "No input makes an output", click="example"),
-        case("same", [gate, file("gate2.aig", GATE), file("equal", b"-5 0\n0\n")], "s VERIFIED SAME", "Both circuits have the same outputs"),
-        case("same", [gate, false, file("equal", b"-5 0\n0\n")], REFUSED, "the circuits have different numbers of inputs"),
+        case("never", [], "s VERIFIED NEVER", "No input makes an output", drop=[["none", "0\n"], ["false", FALSE_TEXT]]),
+        case("same", [gate, file("gate2.aig", GATE), equal], "s VERIFIED SAME", shown),
+        case("same", [*named, equal], "s VERIFIED SAME", "names differ: input 1 is x, and in the second circuit y"),
+        case("same", [gate, file("other.aig", OTHER_GATE), nothing], "s NOT VERIFIED", "shows nothing of the circuit"),
+        case("same", [gate, false, equal], REFUSED, "the circuits have different numbers of inputs"),
+        case("same", [gate, file("two.aig", TWO), equal], REFUSED, "the circuits have different numbers of outputs"),
+        case("same", [gate, file("cut.aig", GATE[:-1]), equal], REFUSED, "second circuit: gate of variable 3: the text ends too early"),
         case("same", [gate, gate], "Three files are needed", "Choose both circuits"),
-        case("same", [], "s VERIFIED SAME", "Both circuits have the same outputs", click="example"),
-        case("same", [], "s VERIFIED SAME", "Both circuits have the same outputs", drop=wanted),
+        case("same", [], "s VERIFIED SAME", shown, click="example"),
+        case("same", [], "s VERIFIED SAME", shown, drop=wanted),
     ]
     names = [name for name in names if name in each]
     kind = {"drat_check": "drat", "lrat_check": "lrat", "model_check": "model", "circuit_check": "never"}[names[0]]

@@ -141,6 +141,11 @@ u32 Z_hostZ_stat(host *it, u32 file, u64 at, u64 length, u64 to) {
     return 0;
 }
 
+u32 Z_hostZ_process(host *it) {
+    (void)it;
+    return (u32)getpid();
+}
+
 u64 Z_hostZ_word(host *it, u64 at, u64 to, u64 size) {
     return put_word(it, at < (u64)it->count ? it->words[at] : NULL, to, size);
 }

@@ -22,6 +22,7 @@ const system = {
     return [it.mode, it.dev, it.ino, it.size]
   }),
   environment: (name) => process.env[name],
+  process: () => process.pid,
 }
 const VERSION = '@VERSION@'
 const names = readdirSync(new URL('.', import.meta.url)).filter((it) => it.endsWith('.wasm')).map((it) => it.slice(0, -5)).sort()

@@ -12,6 +12,7 @@ int HOST(open)(const u8 *name, usize length, int flags);
 int HOST(close)(int file);
 int HOST(rename)(const u8 *from, usize from_length, const u8 *to, usize to_length);
 int HOST(remove)(const u8 *name, usize length);
+int HOST(process)(void);
 /* of the file that is open where the name is empty; what is found is the mode, the device, the node and the size */
 int HOST(stat)(int file, const u8 *name, usize length, usize found[4]);
 /* the length of what was put, -1 where there is none, -2 where it is longer than the room */
@@ -200,6 +201,10 @@ int rename(const u8 *from, const u8 *to) {
 
 int unlink(const u8 *name) {
     return (int)told(host_remove(name, length_of(name)));
+}
+
+int getpid(void) {
+    return host_process();
 }
 
 /* A host gives each file the permissions that it gives a new one. */

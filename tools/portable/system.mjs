@@ -5,6 +5,7 @@
 //   rename(name, name), remove(name)         0
 //   stat(file, name)                         [mode, device, node, size]; of the open file where the name is empty
 //   environment(name)                        a text, or undefined
+//   process()                                the number of the process: no other one that runs beside it has it
 export function runProgram(module, words, system) {
   const encoded = new TextEncoder(), decoded = new TextDecoder()
   let memory
@@ -31,6 +32,7 @@ export function runProgram(module, words, system) {
       found.forEach((it, i) => view.setBigUint64(Number(to) + 8 * i, BigInt(it), true))
       return 0
     },
+    process: () => system.process(),
     word: (at, to, room) => put(words[Number(at)], to, room),
     environment: (at, length, to, room) => put(system.environment(name(at, length)), to, room),
   }

@@ -53,6 +53,7 @@ function systemOver(files, tell) {
       return it ? [0o100644, 0, 1 + names.findIndex((other) => files[other] === it), it.size] : -2
     },
     environment: (name) => (name === 'RUST_LOG' ? 'info' : undefined),
+    process: () => 1,
   }
 }
 

@@ -1,18 +1,43 @@
--- What the outputs of a simulation say, and why there is no verdict.
-use Rattle.std.proofs.Common.{◌≡◌, ℕ, Bool, true, false, List, [], ◌∷◌, ◌||◌, map, refl, ap, sym, ◌∙◌}
+-- What the outputs of a simulation say, and what holds where there is a verdict.
+use Rattle.std.proofs.Common.{◌≡◌, ℕ, suc, ◌<◌, ◌^◌, ◌==◌, nat_lt, Bool, true, false, List, [], ◌∷◌, ◌||◌, None, length, map, refl, ap, sym, ◌∙◌}
 use mathlib.Core.Bool.{beq}
 use Rattle.std.specs.Bool.{Decides}
-use Rattle.std.proofs.lemmas.Bool.{false≢true}
+use Rattle.std.proofs.lemmas.Bool.{eqb-true, false≢true, ltb-true}
 use Rattle.sat_rules.specs.Clauses.{lit_true}
 use Rattle.circuit_rules.specs.Circuits.{simulated}
 use Rattle.circuit_rules.specs.Checks.{any_output}
 use Rattle.circuit_text.specs.declared.circuit.Circuit as read
 use Rattle.circuit_clauses.specs.Formulas.{gates_in}
+use Rattle.circuit_clauses.specs.Machines.{machine_in}
+use Rattle.circuit_clauses.proofs.CauseLemmas.{past}
 use Rattle.verdicts.specs.declared.verdict.Verdict.{Verdict}
 use Rattle.verdicts.specs.declared.verdict.Verdict.TheVariants.{Verified, NotVerified}
 use Rattle.circuit_answers.specs.Answers.{AreDifferent, HaveShapes, IsDifferentJudged, IsPossible, IsPossibleJudged, is_any}
+use Rattle.circuit_answers.specs.Causes.{different_cause, possible_cause, reach_cause}
 use Rattle.circuit_answers.specs.Lines.{different_text, possible_text}
+use Rattle.circuit_answers.specs.Reached.{are_placed}
 use Rattle.circuit_answers.specs.Simulations.{assigned, input_by, outputs_for}
+
+-- ---- where there is no cause
+
+pub few_inputs : (c : read.Circuit) → possible_cause c ≡ None → c.inputs < 2 ^ 28
+few_inputs c h = ltb-true c.inputs (2 ^ 28) (past (nat_lt c.inputs (2 ^ 28)) _ _ h).0
+
+pub alike : (c c' : read.Circuit) → different_cause c c' ≡ None → HaveShapes c c' × (possible_cause c ≡ None)
+alike c c' h =
+    let inputs = past (c.inputs == c'.inputs) _ _ h in
+    let outputs = past (length c.outputs.items == length c'.outputs.items) _ _ inputs.1 in (
+      record {
+        inputs = eqb-true c.inputs c'.inputs inputs.0;
+        outputs = eqb-true (length c.outputs.items) (length c'.outputs.items) outputs.0;
+      },
+      outputs.1,
+    )
+
+pub placed : (c : read.Circuit) → reach_cause c ≡ None → are_placed (suc c.inputs) (machine_in c).latches ≡ true
+placed c h = (past (are_placed (suc c.inputs) (machine_in c).latches) _ _ h).0
+
+-- ---- values
 
 -- two values are the same
 pub values_decides : (x y : Bool) → Decides (beq x y) (x ≡ y)

@@ -1,2 +1,4 @@
 pub mod AnswerLemmas
+pub mod ReachLemmas
+pub mod RunLemmas
 pub mod SimulationLemmas

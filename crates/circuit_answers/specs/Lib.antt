@@ -1,4 +1,5 @@
 pub mod Answers
-pub mod Faults
+pub mod Causes
 pub mod Lines
+pub mod Reached
 pub mod Simulations

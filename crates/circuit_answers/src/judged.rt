@@ -1,10 +1,12 @@
 //! What the input of an answer shows of circuits.
-ghost use Rattle.std.specs.Prelude.{◌≡◌, ◌↔◌, IsTrue, IfErr, IfOk, OnOk};
+ghost use Rattle.std.specs.Prelude.{◌≡◌, ◌↔◌, None, IsTrue, IfErr, IfOk};
 ghost use Rattle.answer_text.specs.Literals.{has_lit};
-ghost use Rattle.circuit_answers.specs.Answers.{HaveShapes, IsDifferentJudged, IsNotVerified, IsPossibleJudged, is_any};
-ghost use Rattle.circuit_answers.specs.Faults.{FailsInput, FailsShapes, FailsTwo};
+ghost use Rattle.circuit_answers.specs.Answers.{IsDifferentJudged, IsNotVerified, IsPossibleJudged, is_any};
+ghost use Rattle.circuit_answers.specs.Causes.{different_cause, possible_cause};
 ghost use Rattle.circuit_answers.specs.Simulations.{outputs_for};
+ghost use Rattle.circuit_clauses.specs.Causes.{IsCause};
 
+use crate::causes::{different_cause, possible_cause};
 use crate::input::read_input;
 use crate::lines::{different_text, open_text, possible_text};
 use crate::simulation::Simulation;
@@ -29,7 +31,7 @@ pub struct Judged {
 ///
 /// # Errors
 ///
-/// `TooLarge` if there is no literal for an input, or `OutOfMemory`.
+/// `TooLarge` if there is no literal for an input; `OutOfMemory`, if there is.
 pub fn judge_possible(
     alloc: Global,
     circuit: &Circuit,
@@ -37,8 +39,12 @@ pub fn judge_possible(
 ) -> Result<Judged, ClausesFault>
     ensures judged { IfOk result (λ judged. IsPossibleJudged (has_lit literals.now) circuit.now
         judged.verdict judged.text.items) }
-    ensures fault { IfErr result (FailsInput circuit.now.inputs) }
+    ensures none { IfOk result (λ judged. possible_cause circuit.now ≡ None) }
+    ensures fault { IfErr result (IsCause (possible_cause circuit.now)) }
 {
+    if let Some(fault) = possible_cause(circuit) {
+        return Err(fault);
+    }
     let input = read_input(alloc, literals, circuit.inputs)?;
     let outputs = outputs_for(alloc, circuit, &input)?;
     if !is_any(&outputs) {
@@ -56,8 +62,8 @@ pub fn judge_possible(
 ///
 /// # Errors
 ///
-/// `OtherInputs` and `OtherOutputs` if the circuits have different shapes, `TooLarge` if there is
-/// no literal for an input, or `OutOfMemory`.
+/// The first that applies: `OtherInputs` and `OtherOutputs` if the circuits have different shapes,
+/// `TooLarge` if there is no literal for an input, and `OutOfMemory`.
 pub fn judge_different(
     alloc: Global,
     one: &Circuit,
@@ -66,9 +72,12 @@ pub fn judge_different(
 ) -> Result<Judged, ClausesFault>
     ensures judged { IfOk result (λ judged. IsDifferentJudged (has_lit literals.now) one.now
         other.now judged.verdict judged.text.items) }
-    ensures fault { IfErr result (FailsTwo one.now other.now) }
+    ensures none { IfOk result (λ judged. different_cause one.now other.now ≡ None) }
+    ensures fault { IfErr result (IsCause (different_cause one.now other.now)) }
 {
-    check_shapes(one, other)?;
+    if let Some(fault) = different_cause(one, other) {
+        return Err(fault);
+    }
     let input = read_input(alloc, literals, one.inputs)?;
     let outputs = outputs_for(alloc, one, &input)?;
     let others = outputs_for(alloc, other, &input)?;
@@ -91,20 +100,6 @@ fn not_verified(alloc: Global) -> Result<Judged, AllocError>
         verdict: Verdict::NotVerified,
         text,
     })
-}
-
-/// Checks that two circuits have as many inputs and as many outputs.
-fn check_shapes(one: &Circuit, other: &Circuit) -> Result<(), ClausesFault>
-    ensures shapes { OnOk result (HaveShapes one.now other.now) }
-    ensures fault { IfErr result (FailsShapes one.now other.now) }
-{
-    if one.inputs != other.inputs {
-        return Err(ClausesFault::OtherInputs);
-    }
-    if one.outputs.len() != other.outputs.len() {
-        return Err(ClausesFault::OtherOutputs);
-    }
-    Ok(())
 }
 
 /// Returns the outputs of a circuit for an input.

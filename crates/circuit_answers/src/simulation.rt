@@ -1,11 +1,14 @@
 //! The values of a circuit's variables, gate after gate.
 ghost use Rattle.std.specs.Prelude.{◌≡◌, ℕ, ◌<◌, ◌^◌, ◌∷◌, false, map, IfOk, OnOk};
 ghost use Rattle.sat_rules.specs.Clauses.{lit_true, var_of};
+ghost use Rattle.circuit_rules.specs.Checks.{any_output};
 ghost use Rattle.circuit_rules.specs.Circuits.{gate_value, simulated, with_value};
-ghost use Rattle.circuit_text.specs.Circuits.{gate_of};
+ghost use Rattle.circuit_rules.specs.Safety.{lits_true};
+ghost use Rattle.circuit_text.specs.Circuits.{gate_of, latch_of};
+ghost use Rattle.circuit_answers.specs.Reached.{nexts};
 ghost use Rattle.circuit_answers.specs.Simulations.{assigned, values_of};
 
-use circuit_text::Gate;
+use circuit_text::{Gate, Latch};
 use sat_formula::Lit;
 use std::alloc::{AllocError, Global};
 
@@ -93,5 +96,35 @@ impl Simulation {
             values.push(self.is_true(*lit))?;
         }
         Ok(values)
+    }
+
+    /// Returns whether all literals are true.
+    pub(crate) fn are_true(&self, lits: &[Lit]) -> bool
+        ensures { result ≡ lits_true (values_of self.now) lits.now }
+    {
+        lits.iter().all(|lit| self.is_true(*lit))
+    }
+
+    /// Returns whether some literal is true.
+    pub(crate) fn is_any_true(&self, lits: &[Lit]) -> bool
+        ensures { result ≡ any_output (values_of self.now) lits.now }
+    {
+        lits.iter().any(|lit| self.is_true(*lit))
+    }
+
+    /// Returns the values of latches at the next step.
+    ///
+    /// # Errors
+    ///
+    /// `AllocError` if memory runs out.
+    pub(crate) fn nexts(&self, alloc: Global, latches: &[Latch]) -> Result<Vec<bool>, AllocError>
+        ensures { IfOk result (λ states. states.items
+            ≡ nexts (values_of self.now) (map latch_of latches.now)) }
+    {
+        let mut states = Vec::new(alloc);
+        for latch in latches {
+            states.push(self.is_true(latch.next))?;
+        }
+        Ok(states)
     }
 }

@@ -1,16 +1,21 @@
 -- Faults that a run hands on, and what stands after the verdict on a proof.
-use Rattle.std.proofs.Common.{◌≡◌, inl, inr, ℕ, List, Option, Result, Ok, Err, refl, sym, subst}
+use Rattle.std.proofs.Common.{◌≡◌, inl, inr, ℕ, true, List, Option, None, Result, Ok, Err, refl, ap, sym, subst}
 use Rattle.std.specs.Prelude.{IfOk}
 use Rattle.cube_rules.specs.Cubes.{IsRefuted}
+use Rattle.circuit_clauses.specs.Causes.{IsCause, fits_part, part_cause, unless}
+use Rattle.circuit_clauses.specs.Machines.{part_clauses}
+use Rattle.circuit_clauses.specs.declared.fault.ClausesFault.{ClausesFault}
+use Rattle.circuit_clauses.specs.declared.fault.ClausesFault.TheVariants.{OutOfMemory, TooLarge}
 use Rattle.circuit_clauses.specs.declared.induction.Induction.{Induction}
 use Rattle.circuit_clauses.specs.declared.induction.Part.{Part}
 use Rattle.circuit_clauses.specs.declared.induction.Part.TheVariants as parts
+use Rattle.drat_check.specs.Runs.{IsProofRun}
 use Rattle.drat_check.specs.declared.fault.RunFault.{RunFault}
 use Rattle.verdicts.specs.declared.verdict.Verdict.{Verdict}
 use Rattle.verdicts.specs.declared.verdict.Verdict.TheVariants.{Verified, NotVerified}
 use Rattle.circuit_check.specs.Claims.{IsInductionText, IsNeverFormula, IsSameFormula, RefutesAll}
 use Rattle.circuit_check.specs.Reads.{FailsBoth, FailsGates, FailsNever, FailsRead, FailsSafe, FailsSame}
-use Rattle.circuit_check.specs.Runs.{FailsClaim, FailsInduction, IsClaimRun, IsPartFault, IsSafeRun, IsShown, IsUnwritten, IsWritten, ShowsAll, proof_fault}
+use Rattle.circuit_check.specs.Runs.{AreUnmade, FailsClaim, FailsInduction, HaveStopped, IsClaimRun, IsPartFault, IsSafeRun, IsShown, IsUnwritten, IsWritten, ShowsAll, proof_fault}
 use Rattle.circuit_check.specs.declared.fault.CircuitFault.{CircuitFault}
 use Rattle.circuit_check.specs.declared.fault.CircuitFault.TheVariants.{Unread, OtherUnread, Sequential, NoFormula, Answer, Proof, InitialProof, StepProof, BadProof, Formula, Write}
 
@@ -110,18 +115,39 @@ safe_run known known' (Write f) h = absurd h
 
 -- a fault of a part, once there is an induction
 part_fails : (known known' : Option (List ℕ)) (i : Induction) (part : Part) (run : RunFault) → IsInductionText known known' i →
+    IsProofRun (part_clauses i part) (Err run) →
     FailsInduction known known' (proof_fault part run) × (IsUnwritten (Err (proof_fault part run)) → ⊥)
-part_fails known known' i parts.Initial run h = ((i, h), λ u. u)
-part_fails known known' i parts.Step run h = ((i, h), λ u. u)
-part_fails known known' i parts.Bad run h = ((i, h), λ u. u)
+part_fails known known' i parts.Initial run h r = ((i, h, r), λ u. u)
+part_fails known known' i parts.Step run h r = ((i, h, r), λ u. u)
+part_fails known known' i parts.Bad run h r = ((i, h, r), λ u. u)
 
-pub parts_fail : (known known' : Option (List ℕ)) (i : Induction) (fault : CircuitFault) → IsInductionText known known' i → IsPartFault fault →
+-- where the next step has variables, a part lacks its formula only where memory ran out
+part_fits : (i : Induction) (part : Part) → fits_part i parts.Step ≡ true → part_cause i part ≡ None
+part_fits i parts.Initial h = refl
+part_fits i parts.Step h = ap (λ fits. unless fits TooLarge None) h
+part_fits i parts.Bad h = refl
+
+memory_alone : (cause : Option ClausesFault) (fault : ClausesFault) → cause ≡ None → IsCause cause fault → fault ≡ OutOfMemory
+memory_alone cause fault e (inl is) = absurd cc
+memory_alone cause fault e (inr memory) = memory.1
+
+pub parts_fail : (known known' : Option (List ℕ)) (i : Induction) (fault : CircuitFault) → IsInductionText known known' i → IsPartFault i fault →
     FailsInduction known known' fault × (IsUnwritten (Err fault) → ⊥)
-parts_fail known known' i fault h (part, inl (run, e)) =
-    subst (λ (f : CircuitFault). FailsInduction known known' f × (IsUnwritten (Err f) → ⊥)) (sym e) (part_fails known known' i part run h)
-parts_fail known known' i fault h (part, inr (clauses, e)) =
-    subst (λ (f : CircuitFault). FailsInduction known known' f × (IsUnwritten (Err f) → ⊥)) (sym e)
-    (((h.circuit, h.says), (h.circuit', h.says')), λ u. u)
+parts_fail known known' i fault h (part, inl (run, e, r)) =
+    subst (λ (f : CircuitFault). FailsInduction known known' f × (IsUnwritten (Err f) → ⊥)) (sym e) (part_fails known known' i part run h r)
+parts_fail known known' i fault h (part, inr (clauses, e, cause)) =
+    subst (λ (f : CircuitFault). FailsInduction known known' f × (IsUnwritten (Err f) → ⊥)) (sym e) (
+      record {
+        circuit = h.circuit;
+        says = h.says;
+        holds = record {
+          circuit = h.circuit';
+          says = h.says';
+          holds = inr (h.none, memory_alone (part_cause i part) clauses (part_fits i part h.fits) cause);
+        };
+      },
+      λ u. u,
+    )
 
 -- ---- verdicts
 
@@ -162,3 +188,11 @@ safe_written known known' i v (Err (StepProof f)) is shown same written = absurd
 safe_written known known' i v (Err (BadProof f)) is shown same written = absurd written
 safe_written known known' i v (Err (Formula f)) is shown same written = absurd written
 safe_written known known' i v (Err (Write f)) is shown same written = (i, is)
+
+-- ---- formulas
+
+-- the writes of three formulas stopped at a part
+pub stopped_at : {W : Type 0} (known known' : Option (List ℕ)) (contents : W → Option (List ℕ)) (initial initial' step step' bad bad' : W) (i : Induction) (fault : CircuitFault)
+    (part : Part) → IsInductionText known known' i → HaveStopped i contents initial initial' step step' bad bad' fault part →
+    AreUnmade known known' contents initial initial' step step' bad bad' fault
+stopped_at known known' contents initial initial' step step' bad bad' i fault part h stopped = inr (i, h, part, stopped)

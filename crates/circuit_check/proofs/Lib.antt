@@ -1,3 +1,4 @@
 pub mod AnswerLemmas
 pub mod ClaimLemmas
 pub mod FaultLemmas
+pub mod ReachLemmas

@@ -9,8 +9,9 @@ use Rattle.answer_text.specs.Answers.{Lists}
 use Rattle.answer_text.specs.Literals.{IsConsistent, listed}
 use Rattle.answer_text.specs.Reading as answers
 use Rattle.circuit_text.specs.declared.circuit.Circuit as read
+use Rattle.circuit_clauses.specs.Causes.{IsCause}
 use Rattle.circuit_answers.specs.Answers.{IsDifferentJudged, IsPossibleJudged}
-use Rattle.circuit_answers.specs.Faults.{FailsInput, FailsTwo}
+use Rattle.circuit_answers.specs.Causes.{different_cause, possible_cause}
 use Rattle.verdicts.specs.declared.verdict.Verdict.{Verdict}
 use Rattle.circuit_check.specs.Reads.{FailsBoth, FailsGates, OfGates}
 use Rattle.circuit_check.specs.declared.fault.CircuitFault.{CircuitFault}
@@ -31,7 +32,7 @@ OfPossible known answer P = OfGates known (λ c. OfLits answer (P c))
 
 -- the fault of the circuit, then that of the answer, then that of its input, then that of the write
 abbrev pub FailsPossible : Option (List ℕ) → Option (List ℕ) → CircuitFault → Type 0
-FailsPossible known answer (NoFormula fault) = OfPossible known answer (λ c lits. FailsInput c.inputs fault)
+FailsPossible known answer (NoFormula fault) = OfPossible known answer (λ c lits. IsCause (possible_cause c) fault)
 FailsPossible known answer (Answer fault) = OfGates known (λ c. answers.FailsBy answer fault)
 FailsPossible known answer (Write cause) = OfPossible known answer (λ c lits. Unit {0})
 FailsPossible known answer fault = FailsGates known fault
@@ -64,7 +65,7 @@ OfDifferent known known' answer P = OfGates known (λ c. OfGates known' (λ c'. 
 
 -- the fault of the circuits, then that of the answer, then that of its input or of the shapes, then that of the write
 abbrev pub FailsDifferent : Option (List ℕ) → Option (List ℕ) → Option (List ℕ) → CircuitFault → Type 0
-FailsDifferent known known' answer (NoFormula fault) = OfDifferent known known' answer (λ c c' lits. FailsTwo c c' fault)
+FailsDifferent known known' answer (NoFormula fault) = OfDifferent known known' answer (λ c c' lits. IsCause (different_cause c c') fault)
 FailsDifferent known known' answer (Answer fault) = OfGates known (λ c. OfGates known' (λ c'. answers.FailsBy answer fault))
 FailsDifferent known known' answer (Write cause) = OfDifferent known known' answer (λ c c' lits. Unit {0})
 FailsDifferent known known' answer fault = FailsBoth known known' fault

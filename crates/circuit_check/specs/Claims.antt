@@ -4,7 +4,8 @@
 --     IsSafeText text      the text says a machine that is safe
 --     IsPossibleText text      the text says a circuit, and some input makes an output true
 --     AreDifferentText text text'      both texts say circuits, which differ for some input
-use Rattle.std.specs.Prelude.{◌≡◌, ℕ, List, [], Option, length}
+--     IsReachedText text      the text says a machine that is not safe
+use Rattle.std.specs.Prelude.{◌≡◌, ℕ, true, List, [], Option, None, length}
 use Rattle.std.specs.Io.KnownBytes.{Appends}
 use Rattle.sat_output.specs.FormulaTexts.{formula_text}
 use Rattle.cube_rules.specs.Cubes.{IsRefuted}
@@ -15,8 +16,10 @@ use Rattle.circuit_text.specs.declared.circuit.Circuit as read
 use Rattle.circuit_text.specs.Circuits.{Circuit, circuit_of}
 use Rattle.circuit_text.specs.Reading.{IsRead}
 use Rattle.circuit_answers.specs.Answers.{AreDifferent, IsPossible}
+use Rattle.circuit_answers.specs.Reached.{IsReached}
 use Rattle.circuit_clauses.specs.declared.induction.Induction.{Induction}
 use Rattle.circuit_clauses.specs.declared.induction.Part.TheVariants.{Initial, Step, Bad}
+use Rattle.circuit_clauses.specs.Causes.{fits_part, safe_cause, same_cause}
 use Rattle.circuit_clauses.specs.Formulas.{HasNever, HasSame}
 use Rattle.circuit_clauses.specs.Machines.{IsInduction, machine_of, part_clauses}
 
@@ -69,6 +72,12 @@ pub record AreDifferentText (text text' : List ℕ) : Type 0 where
   pub outputs : length circuit.outputs ≡ length circuit'.outputs
   pub different : AreDifferent circuit.gates circuit.outputs circuit'.gates circuit'.outputs
 
+-- the text says a machine, some run of which makes a bad output true; all outputs are bad, where none is named
+pub record IsReachedText (text : List ℕ) : Type 0 where
+  pub circuit : Circuit
+  pub says : outcome_of text ≡ Says circuit
+  pub reached : IsReached (machine_of circuit)
+
 -- ---- formulas
 
 -- the formula of a text that says such a circuit
@@ -87,14 +96,17 @@ pub record IsSameFormula (known known' : Option (List ℕ)) (formula : List (Lis
   pub shape : IsCombinational (circuit_of circuit)
   pub shape' : IsCombinational (circuit_of circuit')
   pub has : HasSame circuit circuit' formula
+  pub none : same_cause circuit circuit' ≡ None
 
--- a text says a machine, and another one an invariant
+-- a text says a machine, and another one an invariant; each part has a formula
 pub record IsInductionText (known known' : Option (List ℕ)) (induction : Induction) : Type 0 where
   pub circuit : read.Circuit
   pub circuit' : read.Circuit
   pub says : IsRead known circuit
   pub says' : IsRead known' circuit'
   pub is : IsInduction circuit circuit' induction
+  pub none : safe_cause circuit circuit' ≡ None
+  pub fits : fits_part induction Step ≡ true
 
 -- all three formulas are refuted
 pub record RefutesAll (induction : Induction) : Type 0 where

@@ -1,12 +1,13 @@
 -- Circuits that are read, and why they are not.
 --     IsGates known c      the text says this circuit, which has gates and outputs alone
---     OfGates known P      this holds of that circuit
+--     OfGates known P, OfRead known P      this holds of that circuit;  of the circuit that the text says
 --     FailsGates, FailsRead, FailsBoth      why one circuit, two machines, two circuits are not read
 --     FailsNever, FailsSame, FailsSafe      why no formula is made of them
 use Rattle.std.specs.Prelude.{◌⊎◌, ℕ, List, Option}
 use Rattle.circuit_text.specs.declared.circuit.Circuit as read
 use Rattle.circuit_text.specs.Circuits.{circuit_of}
 use Rattle.circuit_text.specs.Reading.{FailsBy, IsRead}
+use Rattle.circuit_clauses.specs.Causes.{IsCause, never_cause, safe_cause, same_cause}
 use Rattle.circuit_check.specs.Claims.{IsCombinational}
 use Rattle.circuit_check.specs.declared.fault.CircuitFault.{CircuitFault}
 use Rattle.circuit_check.specs.declared.fault.CircuitFault.TheVariants.{Unread, OtherUnread, Sequential, NoFormula}
@@ -28,6 +29,12 @@ pub record OfGates (known : Option (List ℕ)) (P : read.Circuit → Type 0) : T
   pub gates : IsGates known circuit
   pub holds : P circuit
 
+-- this holds of the circuit that the text says
+pub record OfRead (known : Option (List ℕ)) (P : read.Circuit → Type 0) : Type 0 where
+  pub circuit : read.Circuit
+  pub says : IsRead known circuit
+  pub holds : P circuit
+
 -- the text says a circuit
 abbrev pub IsReadable : Option (List ℕ) → Type 0
 IsReadable known = (c : read.Circuit) × IsRead known c
@@ -46,22 +53,22 @@ FailsRead known known' fault = ⊥
 
 -- why two circuits of gates and outputs alone are not read; both are read before their shapes are looked at
 abbrev pub FailsBoth : Option (List ℕ) → Option (List ℕ) → CircuitFault → Type 0
-FailsBoth known known' Sequential = IsSequential known ⊎ IsSequential known'
+FailsBoth known known' Sequential = IsReadable known × IsReadable known' × (IsSequential known ⊎ IsSequential known')
 FailsBoth known known' fault = FailsRead known known' fault
 
 -- ---- formulas
 
--- why there is no formula of one circuit. Not said: which circuits have none
+-- why there is no formula of one circuit: it is not read, or there is a cause, or memory ran out
 abbrev pub FailsNever : Option (List ℕ) → CircuitFault → Type 0
-FailsNever known (NoFormula fault) = OfGates known (λ c. Unit {0})
+FailsNever known (NoFormula fault) = OfGates known (λ c. IsCause (never_cause c) fault)
 FailsNever known fault = FailsGates known fault
 
 -- of two circuits
 abbrev pub FailsSame : Option (List ℕ) → Option (List ℕ) → CircuitFault → Type 0
-FailsSame known known' (NoFormula fault) = OfGates known (λ c. OfGates known' (λ c'. Unit {0}))
+FailsSame known known' (NoFormula fault) = OfGates known (λ c. OfGates known' (λ c'. IsCause (same_cause c c') fault))
 FailsSame known known' fault = FailsBoth known known' fault
 
 -- of a machine and an invariant
 abbrev pub FailsSafe : Option (List ℕ) → Option (List ℕ) → CircuitFault → Type 0
-FailsSafe known known' (NoFormula fault) = IsReadable known × IsReadable known'
+FailsSafe known known' (NoFormula fault) = OfRead known (λ c. OfRead known' (λ c'. IsCause (safe_cause c c') fault))
 FailsSafe known known' fault = FailsRead known known' fault

@@ -5,21 +5,26 @@
 --     IsClaimRun IsFormula Fails r      a verdict on the proof of such a formula, or why there is none
 --     IsSafeRun known known' r      a verdict on the three proofs of a machine, or why there is none
 --     BeginsClaim, BeginsSafe      what was written, where the line was not written whole
+--     IsUnmade, AreUnmade      why a formula, or the three of a machine, were not written whole, and what was written
 use Rattle.std.specs.Prelude.{◌≡◌, ◌⊎◌, ℕ, List, Option, Result, Ok, Err}
 use Rattle.whole_writes.specs.Beginnings.{AppendsBeginning}
+use Rattle.sat_output.specs.FormulaTexts.{formula_text}
 use Rattle.cube_rules.specs.Cubes.{IsRefuted}
+use Rattle.circuit_clauses.specs.Causes.{IsCause, part_cause}
+use Rattle.circuit_clauses.specs.Machines.{part_clauses}
 use Rattle.circuit_clauses.specs.declared.fault.ClausesFault.{ClausesFault}
 use Rattle.circuit_clauses.specs.declared.induction.Induction.{Induction}
 use Rattle.circuit_clauses.specs.declared.induction.Part.{Part}
 use Rattle.circuit_clauses.specs.declared.induction.Part.TheVariants as parts
+use Rattle.drat_check.specs.Runs.{IsProofRun}
 use Rattle.drat_check.specs.declared.fault.RunFault.{RunFault}
 use Rattle.verdicts.specs.declared.verdict.Verdict.{Verdict}
 use Rattle.verdicts.specs.declared.verdict.Verdict.TheVariants.{Verified, NotVerified}
-use Rattle.circuit_check.specs.Claims.{IsInductionText, RefutesAll}
+use Rattle.circuit_check.specs.Claims.{IsAppended, IsInductionText, RefutesAll}
 use Rattle.circuit_check.specs.Reads.{FailsSafe}
 use Rattle.circuit_check.specs.Verdicts.{claim_line}
 use Rattle.circuit_check.specs.declared.fault.CircuitFault.{CircuitFault}
-use Rattle.circuit_check.specs.declared.fault.CircuitFault.TheVariants.{NoFormula, Proof, InitialProof, StepProof, BadProof, Write}
+use Rattle.circuit_check.specs.declared.fault.CircuitFault.TheVariants.{NoFormula, Proof, InitialProof, StepProof, BadProof, Formula, Write}
 use Rattle.circuit_check.specs.declared.line.Claim.{Claim}
 use Rattle.circuit_check.specs.declared.line.Claim.TheVariants.{Safe}
 
@@ -51,7 +56,7 @@ IsShown formula NotVerified = Unit {0}
 
 -- why there is no verdict: there is no such formula, or a fault of the proof or of the write, after the formula was made
 abbrev pub FailsClaim : (List (List ℕ) → Type 0) → (CircuitFault → Type 0) → CircuitFault → Type 0
-FailsClaim IsFormula Fails (Proof fault) = (formula : List (List ℕ)) × IsFormula formula
+FailsClaim IsFormula Fails (Proof fault) = (formula : List (List ℕ)) × IsFormula formula × IsProofRun formula (Err fault)
 FailsClaim IsFormula Fails (Write cause) = (formula : List (List ℕ)) × IsFormula formula
 FailsClaim IsFormula Fails fault = Fails fault
 
@@ -82,20 +87,29 @@ proof_fault parts.Initial fault = InitialProof fault
 proof_fault parts.Step fault = StepProof fault
 proof_fault parts.Bad fault = BadProof fault
 
+-- there is no formula of a part
+abbrev pub LacksPart : Induction → Part → CircuitFault → Type 0
+LacksPart i part fault = (clauses : ClausesFault) × (fault ≡ NoFormula clauses) × IsCause (part_cause i part) clauses
+
 -- the proof of this part has a fault, or there is no formula of it
-abbrev pub IsFaultOf : Part → CircuitFault → Type 0
-IsFaultOf part fault =
-    ((run : RunFault) × (fault ≡ proof_fault part run)) ⊎ ((clauses : ClausesFault) × (fault ≡ NoFormula clauses))
+abbrev pub IsFaultOf : Induction → Part → CircuitFault → Type 0
+IsFaultOf i part fault =
+    ((run : RunFault) × (fault ≡ proof_fault part run) × IsProofRun (part_clauses i part) (Err run)) ⊎ LacksPart i part fault
 
 -- this is so of some part
-abbrev pub IsPartFault : CircuitFault → Type 0
-IsPartFault fault = (part : Part) × IsFaultOf part fault
+abbrev pub IsPartFault : Induction → CircuitFault → Type 0
+IsPartFault i fault = (part : Part) × IsFaultOf i part fault
+
+-- there is an induction, and the run of the proof of this part has this fault
+abbrev pub FailsPart : Option (List ℕ) → Option (List ℕ) → Part → RunFault → Type 0
+FailsPart known known' part fault =
+    (i : Induction) × IsInductionText known known' i × IsProofRun (part_clauses i part) (Err fault)
 
 -- why there is no verdict: no induction, or no formula or a fault of a proof or of the write, after the induction was made
 abbrev pub FailsInduction : Option (List ℕ) → Option (List ℕ) → CircuitFault → Type 0
-FailsInduction known known' (InitialProof fault) = (i : Induction) × IsInductionText known known' i
-FailsInduction known known' (StepProof fault) = (i : Induction) × IsInductionText known known' i
-FailsInduction known known' (BadProof fault) = (i : Induction) × IsInductionText known known' i
+FailsInduction known known' (InitialProof fault) = FailsPart known known' parts.Initial fault
+FailsInduction known known' (StepProof fault) = FailsPart known known' parts.Step fault
+FailsInduction known known' (BadProof fault) = FailsPart known known' parts.Bad fault
 FailsInduction known known' (Write cause) = (i : Induction) × IsInductionText known known' i
 FailsInduction known known' fault = FailsSafe known known' fault
 
@@ -111,3 +125,42 @@ pub record BeginsSafe (known known' : Option (List ℕ)) (old new : Option (List
   pub verdict : Verdict
   pub shown : ShowsAll induction verdict
   pub begins : AppendsBeginning old new (claim_line Safe verdict)
+
+-- ---- formulas
+
+-- a beginning of a formula's text was appended, and the rest could not be
+abbrev pub BeginsText : {W : Type 0} → (W → Option (List ℕ)) → W → W → List (List ℕ) → CircuitFault → Type 0
+BeginsText contents old new formula (Formula cause) = AppendsBeginning (contents old) (contents new) (formula_text formula)
+BeginsText contents old new formula fault = ⊥
+
+-- there is no formula, and nothing was written; or a beginning of such a formula was
+abbrev pub IsUnmade : {W : Type 0} → (List (List ℕ) → Type 0) → (CircuitFault → Type 0) → (W → Option (List ℕ)) → W → W
+    → CircuitFault → Type 0
+IsUnmade IsFormula Fails contents old new fault =
+    (Fails fault × (new ≡ old))
+    ⊎ ((formula : List (List ℕ)) × IsFormula formula × BeginsText contents old new formula fault)
+
+-- the formula of a part was not written whole
+abbrev pub IsPartUnmade : {W : Type 0} → Induction → Part → (W → Option (List ℕ)) → W → W → CircuitFault → Type 0
+IsPartUnmade i part contents old new fault =
+    (LacksPart i part fault × (new ≡ old)) ⊎ BeginsText contents old new (part_clauses i part) fault
+
+-- the formulas of the parts before this one were written whole, its own was not, and of those behind it nothing was
+abbrev pub HaveStopped : {W : Type 0} → Induction → (W → Option (List ℕ)) → W → W → W → W → W → W → CircuitFault → Part → Type 0
+HaveStopped i contents initial initial' step step' bad bad' fault parts.Initial =
+    IsPartUnmade i parts.Initial contents initial initial' fault × (step' ≡ step) × (bad' ≡ bad)
+HaveStopped i contents initial initial' step step' bad bad' fault parts.Step =
+    IsAppended (contents initial) (contents initial') (part_clauses i parts.Initial)
+    × IsPartUnmade i parts.Step contents step step' fault × (bad' ≡ bad)
+HaveStopped i contents initial initial' step step' bad bad' fault parts.Bad =
+    IsAppended (contents initial) (contents initial') (part_clauses i parts.Initial)
+    × IsAppended (contents step) (contents step') (part_clauses i parts.Step)
+    × IsPartUnmade i parts.Bad contents bad bad' fault
+
+-- there is no induction, and nothing was written; or the writes stopped at some part
+abbrev pub AreUnmade : {W : Type 0} → Option (List ℕ) → Option (List ℕ) → (W → Option (List ℕ)) → W → W → W → W → W → W
+    → CircuitFault → Type 0
+AreUnmade known known' contents initial initial' step step' bad bad' fault =
+    (FailsSafe known known' fault × (initial' ≡ initial) × (step' ≡ step) × (bad' ≡ bad))
+    ⊎ ((i : Induction) × IsInductionText known known' i
+    × (part : Part) × HaveStopped i contents initial initial' step step' bad bad' fault part)

@@ -4,6 +4,7 @@ use circuit_clauses::ClausesFault;
 use circuit_text::AigerFault;
 use drat_check::RunFault;
 use std::io;
+use stimulus_text::StimulusFault;
 use thiserror::Error;
 
 /// What a run returns in place of a verdict.
@@ -39,6 +40,23 @@ pub enum CircuitFault {
     /// The formula could not be written.
     #[error("error writing: {0}")]
     Formula(io::Error),
+    /// The verdict's line could not be written.
+    #[error("error writing: {0}")]
+    Write(io::Error),
+}
+
+/// What a run of a stimulus returns in place of a verdict.
+#[derive(Debug, Drop, Error)]
+pub enum ReachFault {
+    /// The machine was not read.
+    #[error("circuit: {0}")]
+    Unread(AigerFault),
+    /// The stimulus was not read whole, or does not fit the machine.
+    #[error("stimulus: {0}")]
+    Stimulus(StimulusFault),
+    /// The machine was not run.
+    #[error("{0}")]
+    NotRun(ClausesFault),
     /// The verdict's line could not be written.
     #[error("error writing: {0}")]
     Write(io::Error),

@@ -3,10 +3,11 @@ ghost use Rattle.std.specs.Prelude.{◌≡◌, ℕ, List, IfErr, IfOk, OnOk, Ok,
 ghost use Rattle.std.specs.Io.KnownBytes.{Appends};
 ghost use Rattle.circuit_check.specs.Claims.{HasWritten, IsNeverFormula, IsNeverText, IsSameFormula, IsSameText};
 ghost use Rattle.circuit_check.specs.Reads.{FailsNever, FailsSame};
-ghost use Rattle.circuit_check.specs.Runs.{BeginsClaim, IsClaimRun, IsSilent, IsUnwritten, IsWritten};
+ghost use Rattle.circuit_check.specs.Runs.{BeginsClaim, BeginsText, IsClaimRun, IsSilent, IsUnmade, IsUnwritten, IsWritten};
 ghost use Rattle.circuit_check.specs.Verdicts.{claim_line};
 ghost use Rattle.circuit_check.specs.declared.line.Claim.TheVariants as claims;
 ghost use Rattle.cube_rules.specs.Cubes.{IsRefuted};
+ghost use Rattle.drat_check.specs.Runs.{IsProofRun};
 ghost use Rattle.sat_output.specs.FormulaTexts.{formula_text};
 ghost use Rattle.verdicts.specs.declared.verdict.Verdict.TheVariants.{Verified};
 ghost use Rattle.whole_writes.specs.Beginnings.{AppendsBeginning};
@@ -110,14 +111,16 @@ pub fn run_same<R: Log, A: Read + Drop, B: Read + Drop, P: Read + Drop, W: Write
 /// # Errors
 ///
 /// `Unread`, `Sequential` and `NoFormula` as `run_never`, with nothing written; `Formula` if it
-/// could not be written whole.
+/// could not be written whole: a beginning of it is.
 pub fn write_never<A: Read + Drop, W: Write>(
     alloc: Global,
     text: A,
     out: &mut W,
 ) -> Result<(), CircuitFault>
-    ensures { OnOk result (HasWritten (IsNeverFormula (A.remaining text))
+    ensures whole { OnOk result (HasWritten (IsNeverFormula (A.remaining text))
         (W.contents out.old) (W.contents out.new)) }
+    ensures fault { IfErr result (IsUnmade (IsNeverFormula (A.remaining text))
+        (FailsNever (A.remaining text)) W.contents out.old out.new) }
 {
     match read_never(alloc, text) {
         Ok(formula) => write_text(alloc, &formula, out),
@@ -136,8 +139,10 @@ pub fn write_same<A: Read + Drop, B: Read + Drop, W: Write>(
     other: B,
     out: &mut W,
 ) -> Result<(), CircuitFault>
-    ensures { OnOk result (HasWritten (IsSameFormula (A.remaining text) (B.remaining other))
+    ensures whole { OnOk result (HasWritten (IsSameFormula (A.remaining text) (B.remaining other))
         (W.contents out.old) (W.contents out.new)) }
+    ensures fault { IfErr result (IsUnmade (IsSameFormula (A.remaining text) (B.remaining other))
+        (FailsSame (A.remaining text) (B.remaining other)) W.contents out.old out.new) }
 {
     match read_same(alloc, text, other) {
         Ok(formula) => write_text(alloc, &formula, out),
@@ -151,8 +156,9 @@ pub(crate) fn write_text<W: Write>(
     formula: &CnfFormula,
     out: &mut W,
 ) -> Result<(), CircuitFault>
-    ensures { OnOk result (Appends (W.contents out.old) (W.contents out.new)
+    ensures whole { OnOk result (Appends (W.contents out.old) (W.contents out.new)
         (formula_text formula.now)) }
+    ensures beginning { IfErr result (BeginsText W.contents out.old out.new formula.now) }
 {
     match write_formula(alloc, out, formula) {
         Ok(()) => Ok(()),
@@ -168,7 +174,8 @@ pub(crate) fn check_proof<R: Log, P: Read + Drop>(
     proof: P,
     format: ProofFormat,
 ) -> Result<Verdict, RunFault>
-    ensures { result ≡ Ok Verified → IsRefuted formula.now }
+    ensures run { IsProofRun formula.now result }
+    ensures refutes { result ≡ Ok Verified → IsRefuted formula.now }
 {
     let mut outputs: Outputs<Sink, Sink> = Outputs {
         lrat: None,

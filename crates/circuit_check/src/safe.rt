@@ -2,7 +2,7 @@
 ghost use Rattle.std.specs.Prelude.{◌≡◌, ℕ, List, IfErr, IfOk, OnOk, Ok, Some};
 ghost use Rattle.std.specs.Io.KnownBytes.{Appends};
 ghost use Rattle.circuit_check.specs.Claims.{HaveWritten, IsAppended, IsSafeText, RefutesAll};
-ghost use Rattle.circuit_check.specs.Runs.{BeginsSafe, IsFaultOf, IsPartFault, IsSafeRun, IsSilent, IsUnwritten, proof_fault};
+ghost use Rattle.circuit_check.specs.Runs.{AreUnmade, BeginsSafe, IsFaultOf, IsPartFault, IsPartUnmade, IsSafeRun, IsSilent, IsUnwritten, proof_fault};
 ghost use Rattle.circuit_check.specs.Verdicts.{claim_line};
 ghost use Rattle.circuit_check.specs.declared.line.Claim.TheVariants as claims;
 ghost use Rattle.circuit_clauses.specs.Machines.{part_clauses};
@@ -80,7 +80,8 @@ pub fn run_safe<R: Log, A: Read + Drop, B: Read + Drop, P: Read + Drop, W: Write
 /// # Errors
 ///
 /// `Unread`, `OtherUnread` and `NoFormula` as `run_safe`, with nothing written; `Formula` if a
-/// formula could not be written whole.
+/// formula could not be written whole: a beginning of it is, and those before it are. So they are
+/// if memory runs out at a later one.
 pub fn write_safe<A: Read + Drop, B: Read + Drop, W: Write>(
     alloc: Global,
     machine: A,
@@ -89,10 +90,12 @@ pub fn write_safe<A: Read + Drop, B: Read + Drop, W: Write>(
     step: &mut W,
     bad: &mut W,
 ) -> Result<(), CircuitFault>
-    ensures { OnOk result (HaveWritten (A.remaining machine) (B.remaining invariant)
+    ensures whole { OnOk result (HaveWritten (A.remaining machine) (B.remaining invariant)
         (W.contents initial.old) (W.contents initial.new)
         (W.contents step.old) (W.contents step.new)
         (W.contents bad.old) (W.contents bad.new)) }
+    ensures fault { IfErr result (AreUnmade (A.remaining machine) (B.remaining invariant)
+        W.contents initial.old initial.new step.old step.new bad.old bad.new) }
 {
     let induction = match read_safe(alloc, machine, invariant) {
         Ok(induction) => induction,
@@ -110,8 +113,9 @@ fn write_part<W: Write>(
     part: Part,
     out: &mut W,
 ) -> Result<(), CircuitFault>
-    ensures { OnOk result (IsAppended (W.contents out.old) (W.contents out.new)
+    ensures whole { OnOk result (IsAppended (W.contents out.old) (W.contents out.new)
         (part_clauses induction.now part)) }
+    ensures fault { IfErr result (IsPartUnmade induction.now part W.contents out.old out.new) }
 {
     match induction.formula(alloc, part) {
         Ok(formula) => write_text(alloc, &formula, out),
@@ -128,7 +132,7 @@ fn judge_parts<R: Log, P: Read + Drop>(
     format: ProofFormat,
 ) -> Result<Verdict, CircuitFault>
     ensures refutes { result ≡ Ok Verified → RefutesAll induction.now }
-    ensures fault { IfErr result IsPartFault }
+    ensures fault { IfErr result (IsPartFault induction.now) }
 {
     let PartProofs { initial, step, bad } = proofs;
     let initial = judge_part(rt, alloc, induction, Part::Initial, initial, format)?;
@@ -150,7 +154,7 @@ fn judge_part<R: Log, P: Read + Drop>(
     format: ProofFormat,
 ) -> Result<Verdict, CircuitFault>
     ensures refutes { result ≡ Ok Verified → IsRefuted (part_clauses induction.now part) }
-    ensures fault { IfErr result (IsFaultOf part) }
+    ensures fault { IfErr result (IsFaultOf induction.now part) }
 {
     let formula = match induction.formula(alloc, part) {
         Ok(formula) => formula,

@@ -1,2 +1,4 @@
+pub mod CauseLemmas
 pub mod ClauseLemmas
 pub mod MachineLemmas
+pub mod PlaceLemmas

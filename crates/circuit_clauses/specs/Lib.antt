@@ -1,3 +1,4 @@
+pub mod Causes
 pub mod Formulas
 pub mod Machines
 pub mod Places

@@ -49,10 +49,10 @@ latch_clauses d x = step_clauses d (x ∷ [])
 abbrev pub is_latch_below : ℕ → ℕ → Latch → Bool
 is_latch_below n p x = (nat_lt 0 x.var && nat_lt x.var (suc n)) && nat_lt (var_of x.next + 0) p
 
--- inputs and latches; with the machine's gates and the constant; and with the invariant's gates, without the constant
+-- inputs and latches; the machine's gates; and all these with the invariant's gates
 abbrev pub HasCounts : read.Circuit → read.Circuit → Counts → Type 0
 HasCounts c c' n =
-    (n.states ≡ states_in c) × (n.own ≡ states_in c + 1 + size_of c) × (n.last ≡ states_in c + size_of c + size_of c')
+    (n.states ≡ states_in c) × (n.own ≡ size_of c) × (n.last ≡ states_in c + size_of c + size_of c')
 
 -- the gates of the machine, and behind them those of the invariant
 abbrev pub gates_of : Induction → List Gate

@@ -1,11 +1,11 @@
 //! The clauses of gates.
-ghost use Rattle.std.specs.Prelude.{◌≡◌, [], ◌∷◌, ◌++◌, map, OnOk};
+ghost use Rattle.std.specs.Prelude.{◌≡◌, [], ◌∷◌, ◌++◌, map, true, OnOk};
+ghost use Rattle.circuit_clauses.specs.Causes.{gates_fit};
 ghost use Rattle.circuit_rules.specs.Checks.{moved_gate};
 ghost use Rattle.circuit_rules.specs.Circuits.{circuit_clauses, gate_clauses, gates_clauses, lit_of};
 ghost use Rattle.sat_rules.specs.Clauses.{var_of};
 ghost use Rattle.circuit_text.specs.Circuits.{gate_of};
 
-use crate::fault::ClausesFault;
 use crate::shift::Shift;
 use circuit_text::Gate;
 use sat_formula::{CnfFormula, Lit};
@@ -30,12 +30,13 @@ pub(crate) fn add_moved(
     formula: &mut CnfFormula,
     shift: Shift,
     gates: &[Gate],
-) -> Result<(), ClausesFault>
+) -> Result<(), AllocError>
+    requires { gates_fit shift.distance (map gate_of gates.now) ≡ true }
     ensures { OnOk result (formula.new ≡ formula.old
         ++ gates_clauses (map (moved_gate shift.inputs shift.distance) (map gate_of gates.now))) }
 {
     for gate in gates {
-        add_gate(formula, shift.moved_gate(*gate)?)?;
+        add_gate(formula, shift.moved_gate(*gate))?;
     }
     Ok(())
 }

@@ -1,17 +1,19 @@
 //! A machine and an invariant, and the formulas by which the machine is safe.
-ghost use Rattle.std.specs.Prelude.{◌≡◌, ◌≤◌, ◌+◌, ◌*◌, [], ◌∷◌, ◌++◌, map, IfOk, OnOk};
+ghost use Rattle.std.specs.Prelude.{◌≡◌, [], ◌∷◌, ◌++◌, length, map, true, None, IfErr, IfOk, OnOk};
 ghost use Rattle.sat_rules.specs.Clauses.{negate};
 ghost use Rattle.cube_rules.specs.Cubes.{units_of};
-ghost use Rattle.circuit_rules.specs.Safety.{HaveSteps, reset_clauses};
+ghost use Rattle.circuit_rules.specs.Safety.{reset_clauses};
 ghost use Rattle.circuit_text.specs.Circuits.{gate_of};
-ghost use Rattle.circuit_clauses.specs.Formulas.{gates_in};
-ghost use Rattle.circuit_clauses.specs.Machines.{IsInduction, after_clauses, bad_of, machine_in, part_clauses};
+ghost use Rattle.circuit_clauses.specs.Causes.{IsCause, fits_part, part_cause, safe_cause};
+ghost use Rattle.circuit_clauses.specs.Machines.{IsInduction, after_clauses, machine_in, part_clauses};
 
+use crate::causes::safe_cause;
 use crate::counts::Counts;
 use crate::fault::ClausesFault;
+use crate::fits::{gates_fit, latches_fit, lit_fits};
 use crate::gates::{add_circuit, add_moved};
 use crate::latches::{add_resets, add_steps, add_units};
-use crate::order::{are_ordered, gates_below, latches_below, lits_below};
+use crate::shapes::bad_outputs;
 use crate::shift::Shift;
 use circuit_text::{Circuit, Gate};
 use sat_formula::{CnfFormula, Lit};
@@ -46,32 +48,31 @@ impl Induction {
     ///
     /// # Errors
     ///
-    /// `NothingBad` if the machine has no outputs, `NoInvariant` and `OtherStates` if the second
-    /// circuit has another shape, `TooLarge`, `Unordered` and `OutOfRange` if a gate or a literal
-    /// of one of them reads what is not there, and `OutOfMemory`.
+    /// The first that applies: `NothingBad` if the machine has no outputs, `NoInvariant` if the
+    /// second circuit has not one output and gates alone, `TooLarge`, `OtherStates` if it has other
+    /// inputs, `Unordered` and `OutOfRange` if a gate or a literal of one of them reads what is not
+    /// there, and `OutOfMemory`.
     pub fn of(
         alloc: Global,
         machine: Circuit,
         invariant: &Circuit,
     ) -> Result<Induction, ClausesFault>
-        ensures { IfOk result (IsInduction machine invariant.now) }
+        ensures induction { IfOk result (IsInduction machine invariant.now) }
+        ensures fits { IfOk result (λ induction. fits_part induction Part.Step ≡ true) }
+        ensures none { IfOk result (λ induction. safe_cause machine invariant.now ≡ None) }
+        ensures fault { IfErr result (IsCause (safe_cause machine invariant.now)) }
     {
-        if bad_outputs(&machine).is_empty() {
-            return Err(ClausesFault::NothingBad);
+        if let Some(fault) = safe_cause(&machine, invariant) {
+            return Err(fault);
         }
-        let output = output_of(invariant)?;
-        let counts = Counts::of(&machine, invariant)?;
-        if invariant.inputs != counts.states {
-            return Err(ClausesFault::OtherStates);
-        }
+        let counts = Counts::of(&machine, invariant);
         let shift = Shift {
             inputs: counts.states,
-            distance: machine.gates.len() as u32,
+            distance: counts.own,
         };
-        let output = shift.moved(output)?;
+        let output = shift.moved(output_of(invariant));
         let more = shift.moved_gates(alloc, &invariant.gates)?;
         let gates = joined(alloc, &machine.gates, &more)?;
-        check_places(&machine, &more, &gates, output, counts)?;
         Ok(Induction {
             machine,
             gates,
@@ -84,10 +85,16 @@ impl Induction {
     ///
     /// # Errors
     ///
-    /// `TooLarge` if a formula can't have its variables, and `OutOfMemory`.
+    /// `TooLarge` if a formula can't have the variables of the next step, which it always can if
+    /// this is of `of`; `OutOfMemory`, if it can.
     pub fn formula(&self, alloc: Global, part: Part) -> Result<CnfFormula, ClausesFault>
-        ensures { IfOk result (λ formula. formula ≡ part_clauses self.now part) }
+        ensures formula { IfOk result (λ formula. formula ≡ part_clauses self.now part) }
+        ensures none { IfOk result (λ formula. part_cause self.now part ≡ None) }
+        ensures fault { IfErr result (IsCause (part_cause self.now part)) }
     {
+        if !self.fits_part(part) {
+            return Err(ClausesFault::TooLarge);
+        }
         let mut formula = CnfFormula::new(alloc);
         add_circuit(&mut formula, &self.gates)?;
         match part {
@@ -96,6 +103,21 @@ impl Induction {
             Part::Bad => self.add_bad(&mut formula)?,
         }
         Ok(formula)
+    }
+
+    /// Whether a formula can have the variables of a part.
+    fn fits_part(&self, part: Part) -> bool
+        ensures { result ≡ fits_part self.now part }
+    {
+        let last = self.last as usize;
+        match part {
+            Part::Step => {
+                gates_fit(last, &self.gates)
+                    && latches_fit(last, &self.machine.latches)
+                    && lit_fits(last, self.invariant)
+            }
+            Part::Initial | Part::Bad => true,
+        }
     }
 
     /// Adds the first values of latches, and that the invariant is false.
@@ -111,18 +133,20 @@ impl Induction {
 
     /// Adds the gates and latches of the next step, and that the invariant is false there, and true
     /// before.
-    fn add_step(&self, formula: &mut CnfFormula) -> Result<(), ClausesFault>
+    fn add_step(&self, formula: &mut CnfFormula) -> Result<(), AllocError>
+        requires { fits_part self.now Part.Step ≡ true }
         ensures { OnOk result (formula.new ≡ formula.old ++ after_clauses self.now) }
     {
         let next = Shift {
             inputs: 0,
             distance: self.last,
         };
-        let after = next.moved(self.invariant)?;
+        let (machine, now) = (&self.machine, self.invariant);
+        let after = next.moved(now);
         add_moved(formula, next, &self.gates)?;
-        add_steps(formula, next, &self.machine.latches)?;
-        add_units(formula, &self.machine.constraints)?;
-        formula.add_clause(&[self.invariant])?;
+        add_steps(formula, next, &machine.latches)?;
+        add_units(formula, &machine.constraints)?;
+        formula.add_clause(&[now])?;
         formula.add_clause(&[!after])?;
         Ok(())
     }
@@ -140,32 +164,14 @@ impl Induction {
     }
 }
 
-/// Returns the bad outputs of a machine. Where none is named, all outputs are.
-#[tactic(auto, using(crate::proofs::MachineLemmas::bad_is))]
-fn bad_outputs(machine: &Circuit) -> &[Lit]
-    ensures { result.now ≡ bad_of machine.now.outputs.items machine.now.bad.items }
+/// Returns the output of a circuit with one output.
+fn output_of(invariant: &Circuit) -> Lit
+    requires { length invariant.now.outputs.items ≡ 1 }
+    ensures { invariant.now.outputs.items ≡ result ∷ [] }
 {
-    if machine.bad.is_empty() {
-        &machine.outputs
-    } else {
-        &machine.bad
-    }
-}
-
-/// Returns the output of a circuit with one output and gates alone.
-fn output_of(invariant: &Circuit) -> Result<Lit, ClausesFault>
-    ensures latches { IfOk result (λ output. invariant.now.latches.items ≡ []) }
-    ensures outputs { IfOk result (λ output. invariant.now.outputs.items ≡ output ∷ []) }
-{
-    if !invariant.latches.is_empty() || !invariant.bad.is_empty() {
-        return Err(ClausesFault::NoInvariant);
-    }
-    if !invariant.constraints.is_empty() {
-        return Err(ClausesFault::NoInvariant);
-    }
     match invariant.outputs.as_slice() {
-        [output] => Ok(*output),
-        _ => Err(ClausesFault::NoInvariant),
+        [output] => *output,
+        _ => unreachable!(),
     }
 }
 
@@ -178,39 +184,4 @@ fn joined(alloc: Global, gates: &[Gate], others: &[Gate]) -> Result<Vec<Gate>, A
     all.extend_from_slice(gates)?;
     all.extend_from_slice(others)?;
     Ok(all)
-}
-
-/// Checks that gates and literals of a machine, and the further gates of an invariant, have
-/// variables of their own, in the formula and in that of two steps.
-fn check_places(
-    machine: &Circuit,
-    more: &[Gate],
-    all: &[Gate],
-    invariant: Lit,
-    counts: Counts,
-) -> Result<(), ClausesFault>
-    requires all { map gate_of all.now ≡ gates_in machine.now ++ map gate_of more.now }
-    requires own { counts.own ≤ counts.last + 1 }
-    requires states { counts.states ≤ counts.last }
-    ensures { OnOk result (HaveSteps counts.states counts.own counts.last (2 * counts.last + 1)
-        (machine_in machine.now) (map gate_of more.now) invariant) }
-{
-    let (states, own) = (counts.states as usize, counts.own as usize);
-    let last = counts.last as usize;
-    if !are_ordered(states + 1, &machine.gates) || !are_ordered(own, more) {
-        return Err(ClausesFault::Unordered);
-    }
-    if !are_ordered(states + 1, all) {
-        return Err(ClausesFault::Unordered);
-    }
-    if !latches_below(states, own, &machine.latches) || !lits_below(0, own, &machine.constraints) {
-        return Err(ClausesFault::OutOfRange);
-    }
-    if !lits_below(0, own, bad_outputs(machine)) || invariant.index() > last {
-        return Err(ClausesFault::OutOfRange);
-    }
-    if !gates_below(0, last + 1, all) || !gates_below(last, 2 * last + 1, all) {
-        return Err(ClausesFault::OutOfRange);
-    }
-    Ok(())
 }

@@ -1,11 +1,11 @@
 //! The clauses of latches.
-ghost use Rattle.std.specs.Prelude.{◌≡◌, [], ◌∷◌, ◌++◌, map, OnOk};
+ghost use Rattle.std.specs.Prelude.{◌≡◌, ◌+◌, ◌<◌, ◌^◌, [], ◌∷◌, ◌++◌, map, true, OnOk};
 ghost use Rattle.cube_rules.specs.Cubes.{units_of};
 ghost use Rattle.circuit_rules.specs.Safety.{reset_clause, reset_clauses, step_clauses};
 ghost use Rattle.circuit_text.specs.Circuits.{latch_of};
+ghost use Rattle.circuit_clauses.specs.Causes.{latches_fit};
 ghost use Rattle.circuit_clauses.specs.Machines.{latch_clauses};
 
-use crate::fault::ClausesFault;
 use crate::gates::positive;
 use crate::shift::Shift;
 use circuit_text::Latch;
@@ -42,7 +42,8 @@ pub(crate) fn add_steps(
     formula: &mut CnfFormula,
     next: Shift,
     latches: &[Latch],
-) -> Result<(), ClausesFault>
+) -> Result<(), AllocError>
+    requires { latches_fit next.distance (map latch_of latches.now) ≡ true }
     ensures { OnOk result (formula.new ≡ formula.old
         ++ step_clauses next.distance (map latch_of latches.now)) }
 {
@@ -54,11 +55,12 @@ pub(crate) fn add_steps(
 
 /// Adds that a latch of the next step has the value of its next literal.
 #[tactic(auto, using(crate::proofs::ClauseLemmas::two_more))]
-fn add_latch(formula: &mut CnfFormula, next: Shift, latch: Latch) -> Result<(), ClausesFault>
+fn add_latch(formula: &mut CnfFormula, next: Shift, latch: Latch) -> Result<(), AllocError>
+    requires { (latch_of latch).var + next.distance < 2 ^ 28 }
     ensures { OnOk result (formula.new ≡ formula.old
         ++ latch_clauses next.distance (latch_of latch)) }
 {
-    let after = next.far(positive(latch.output))?;
+    let after = next.far(positive(latch.output));
     formula.add_clause(&[!after, latch.next])?;
     formula.add_clause(&[after, !latch.next])?;
     Ok(())

@@ -1,10 +1,11 @@
 //! The formula of a circuit that is never true.
-ghost use Rattle.std.specs.Prelude.{◌≡◌, suc, true, IfOk};
+ghost use Rattle.std.specs.Prelude.{IfErr, IfOk};
+ghost use Rattle.circuit_clauses.specs.Causes.{IsCause, never_cause};
 ghost use Rattle.circuit_clauses.specs.Formulas.{HasNever};
 
+use crate::causes::never_cause;
 use crate::fault::ClausesFault;
 use crate::gates::add_circuit;
-use crate::order::are_ordered;
 use circuit_text::Circuit;
 use sat_formula::CnfFormula;
 use std::alloc::Global;
@@ -13,12 +14,14 @@ use std::alloc::Global;
 ///
 /// # Errors
 ///
-/// `Unordered` if a gate reads itself or a later gate, or has the variable of an input.
+/// `Unordered` if a gate reads itself or a later gate, or has the variable of an input;
+/// `OutOfMemory`, if it is not so.
 pub fn never_formula(alloc: Global, circuit: &Circuit) -> Result<CnfFormula, ClausesFault>
-    ensures { IfOk result (HasNever circuit.now) }
+    ensures formula { IfOk result (HasNever circuit.now) }
+    ensures fault { IfErr result (IsCause (never_cause circuit.now)) }
 {
-    if !are_ordered(circuit.inputs as usize + 1, &circuit.gates) {
-        return Err(ClausesFault::Unordered);
+    if let Some(fault) = never_cause(circuit) {
+        return Err(fault);
     }
     let mut formula = CnfFormula::new(alloc);
     add_circuit(&mut formula, &circuit.gates)?;

@@ -1,9 +1,11 @@
 //! The formula of two circuits that are the same.
-ghost use Rattle.std.specs.Prelude.{◌≡◌, [], ◌∷◌, ◌++◌, length, IfOk, OnOk};
+ghost use Rattle.std.specs.Prelude.{◌≡◌, ◌≤◌, ◌+◌, ◌^◌, [], ◌∷◌, ◌++◌, length, true, None, IfErr, IfOk, OnOk};
 ghost use Rattle.sat_rules.specs.Clauses.{negate};
+ghost use Rattle.circuit_clauses.specs.Causes.{IsCause, same_cause};
 ghost use Rattle.circuit_clauses.specs.Formulas.{HasSame};
-ghost use Rattle.circuit_rules.specs.Checks.{difference_clauses, differences};
+ghost use Rattle.circuit_rules.specs.Checks.{difference_clauses, differences, lits_below};
 
+use crate::causes::same_cause;
 use crate::fault::ClausesFault;
 use crate::gates::{add_circuit, add_moved};
 use crate::places::Places;
@@ -16,16 +18,22 @@ use std::alloc::{AllocError, Global};
 ///
 /// # Errors
 ///
-/// `OtherInputs` and `OtherOutputs` if the circuits have different shapes, `Unordered` and
-/// `OutOfRange` if a gate or an output of one of them reads what is not there.
+/// The first that applies: `OtherInputs` and `OtherOutputs` if the circuits have different shapes,
+/// `TooLarge`, `Unordered` and `OutOfRange` if a gate or an output of one of them reads what is not
+/// there, and `OutOfMemory`.
 pub fn same_formula(
     alloc: Global,
     one: &Circuit,
     other: &Circuit,
 ) -> Result<CnfFormula, ClausesFault>
-    ensures { IfOk result (HasSame one.now other.now) }
+    ensures formula { IfOk result (HasSame one.now other.now) }
+    ensures none { IfOk result (λ formula. same_cause one.now other.now ≡ None) }
+    ensures fault { IfErr result (IsCause (same_cause one.now other.now)) }
 {
-    let places = Places::of(one, other)?;
+    if let Some(fault) = same_cause(one, other) {
+        return Err(fault);
+    }
+    let places = Places::of(one, other);
     let mut formula = CnfFormula::new(alloc);
     let mut differ = Vec::new(alloc);
     add_circuit(&mut formula, &one.gates)?;
@@ -49,8 +57,10 @@ fn add_differences(
     outputs: &[Lit],
     others: &[Lit],
     differ: &mut Vec<Lit>,
-) -> Result<(), ClausesFault>
+) -> Result<(), AllocError>
     requires as_many { length outputs.now ≡ length others.now }
+    requires fit { places.now.differences + length outputs.now ≤ 2 ^ 28 }
+    requires others_fit { lits_below places.now.shift.distance (2 ^ 28) others.now ≡ true }
     requires empty { differ.old.items ≡ [] }
     ensures clauses { OnOk result (formula.new ≡ formula.old
         ++ difference_clauses places.now.shift.inputs places.now.shift.distance
@@ -58,13 +68,9 @@ fn add_differences(
     ensures differ { OnOk result (differ.new.items ≡ differences places.now.differences outputs.now) }
 {
     for index in 0..outputs.len() {
-        let difference = places.difference(index)?;
-        add_difference(
-            formula,
-            difference,
-            outputs[index],
-            places.shift.moved(others[index])?,
-        )?;
+        let difference = places.difference(index);
+        let other = places.shift.moved(others[index]);
+        add_difference(formula, difference, outputs[index], other)?;
         add_literal(differ, difference)?;
     }
     Ok(())
@@ -77,7 +83,7 @@ fn add_difference(
     difference: Lit,
     one: Lit,
     other: Lit,
-) -> Result<(), ClausesFault>
+) -> Result<(), AllocError>
     ensures { OnOk result (formula.new ≡ formula.old ++ (negate difference ∷ one ∷ other ∷ [])
         ∷ (negate difference ∷ negate one ∷ negate other ∷ []) ∷ []) }
 {

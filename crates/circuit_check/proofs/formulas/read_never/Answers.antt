@@ -9,8 +9,8 @@ returns-in-Ok-never_formula-clause-formula g c = record {
   circuit = c.in-Ok.circuit;
   says = c.in-Ok.ensures.gates.says;
   shape = c.in-Ok.ensures.gates.shape;
-  has = c.in-Ok-never_formula.ensures;
+  has = c.in-Ok-never_formula.ensures.formula;
 }
 
 pub returns-clause-fault : goal.returns-clause-fault
-returns-clause-fault g c = record { circuit = c.in-Ok.circuit; gates = c.in-Ok.ensures.gates; holds = tt }
+returns-clause-fault g c = record { circuit = c.in-Ok.circuit; gates = c.in-Ok.ensures.gates; holds = c.in-Err-never_formula.ensures.fault }

@@ -12,12 +12,13 @@ returns-in-Ok-same_formula-clause-formula g c = record {
   says' = c.in-Ok.ensures.second.says;
   shape = c.in-Ok.ensures.first.shape;
   shape' = c.in-Ok.ensures.second.shape;
-  has = c.in-Ok-same_formula.ensures;
+  has = c.in-Ok-same_formula.ensures.formula;
+  none = c.in-Ok-same_formula.ensures.none;
 }
 
 pub returns-clause-fault : goal.returns-clause-fault
 returns-clause-fault g c = record {
   circuit = c.in-Ok.circuits.0;
   gates = c.in-Ok.ensures.first;
-  holds = record { circuit = c.in-Ok.circuits.1; gates = c.in-Ok.ensures.second; holds = tt };
+  holds = record { circuit = c.in-Ok.circuits.1; gates = c.in-Ok.ensures.second; holds = c.in-Err-same_formula.ensures.fault };
 }

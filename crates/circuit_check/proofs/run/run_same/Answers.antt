@@ -12,24 +12,24 @@ pub returns-in-Err-clause-unwritten : goal.returns-in-Err-clause-unwritten
 returns-in-Err-clause-unwritten g c = λ unwritten. absurd ((same_run _ _ _ c.in-Err.ensures.fault).1 unwritten)
 
 pub returns-in-Err-check_proof-clause-run : goal.returns-in-Err-check_proof-clause-run
-returns-in-Err-check_proof-clause-run g c = (c.in-Ok.formula, c.in-Ok.ensures.formula)
+returns-in-Err-check_proof-clause-run g c = (c.in-Ok.formula, c.in-Ok.ensures.formula, c.in-Err-check_proof.ensures.run)
 
 pub returns-clause-run : goal.returns-clause-run
 returns-clause-run g c =
     claim_written (IsSameFormula (g.A.Read.remaining c.args.text) (g.B.Read.remaining c.args.other))
     (FailsSame (g.A.Read.remaining c.args.text) (g.B.Read.remaining c.args.other)) c.in-Ok.formula c.in-Ok-check_proof.verdict _ c.in-Ok.ensures.formula
-    (shown_by c.in-Ok.formula c.in-Ok-check_proof.verdict (λ e. c.in-Ok-check_proof.ensures (ap (λ v. Ok v) e))) c.write_verdict.ensures.same c.write_verdict.ensures.written
+    (shown_by c.in-Ok.formula c.in-Ok-check_proof.verdict (λ e. c.in-Ok-check_proof.ensures.refutes (ap (λ v. Ok v) e))) c.write_verdict.ensures.same c.write_verdict.ensures.written
 
 pub returns-clause-unwritten : goal.returns-clause-unwritten
 returns-clause-unwritten g c = λ unwritten. record {
   formula = c.in-Ok.formula;
   is = c.in-Ok.ensures.formula;
   verdict = c.in-Ok-check_proof.verdict;
-  shown = shown_by c.in-Ok.formula c.in-Ok-check_proof.verdict (λ e. c.in-Ok-check_proof.ensures (ap (λ v. Ok v) e));
+  shown = shown_by c.in-Ok.formula c.in-Ok-check_proof.verdict (λ e. c.in-Ok-check_proof.ensures.refutes (ap (λ v. Ok v) e));
   begins = c.write_verdict.ensures.unwritten unwritten;
 }
 
 pub returns-clause-same : goal.returns-clause-same
 returns-clause-same g c = λ said other_said e e' r.
     same_text (g.A.Read.remaining c.args.text) (g.B.Read.remaining c.args.other) said other_said _ e e' c.in-Ok.ensures.formula
-    (c.in-Ok-check_proof.ensures (ap (λ v. Ok v) (written_is _ _ c.write_verdict.ensures.same r)))
+    (c.in-Ok-check_proof.ensures.refutes (ap (λ v. Ok v) (written_is _ _ c.write_verdict.ensures.same r)))
