@@ -4,11 +4,11 @@ use circuit_check::{
     ProofFormat, exit_status, run_different, run_never, run_possible, run_same, write_never,
     write_same,
 };
-use command::{FAILED, Input, NOT_RUN, WrittenFiles, open_file, say_cause};
+use command::{FAILED, HostNames, Input, NOT_RUN, ReadFile, WrittenFiles, open_file, say_cause};
 use log::sink::Discard;
 use std::fs::File;
 use std::io;
-use std::io::{BufWriter, Write};
+use std::io::BufWriter;
 
 /// What is claimed, of which files.
 #[derive(Clone, Copy)]
@@ -73,28 +73,28 @@ pub(crate) fn write_files<'a>(
 ) -> Result<u8, u8> {
     let alloc = rt.alloc();
     let mut files = WrittenFiles::new(rt);
-    let (outcome, mut out) = match circuits {
+    let (outcome, out) = match circuits {
         Circuits::Never(circuit) => {
             let circuit = open(rt, circuit)?;
-            let mut out = create(&mut files, formula, &[&circuit])?;
+            let mut out = create(&mut files, formula, &[ReadFile::of(rt, &circuit)])?;
             (write_never(alloc, circuit.file, &mut out), out)
         }
         Circuits::Same(circuit, other, rule) => {
             let (circuit, other) = (open(rt, circuit)?, open(rt, other)?);
-            let mut out = create(&mut files, formula, &[&circuit, &other])?;
+            let inputs = [ReadFile::of(rt, &circuit), ReadFile::of(rt, &other)];
+            let mut out = create(&mut files, formula, &inputs)?;
             let (circuit, other) = read_named(rt, circuit, other, rule)?;
             let (circuit, other) = (circuit.as_slice(), other.as_slice());
             (write_same(alloc, circuit, other, &mut out), out)
         }
     };
-    let flushed = out.flush();
     say_cause(rt, &outcome);
-    say_cause(rt, &flushed);
-    if outcome.is_ok() && flushed.is_ok() && files.finish().is_ok() {
-        Ok(0)
-    } else {
-        Err(FAILED)
+    if outcome.is_err() {
+        return Err(FAILED);
     }
+    let named = files.name_buffered(&mut HostNames::new(rt), formula, out);
+    say_cause(rt, &named);
+    named.map(|_| 0).map_err(|_| FAILED)
 }
 
 pub(crate) fn open<'a>(rt: &HostRuntime, name: &'a str) -> Result<Input<'a>, u8> {
@@ -104,7 +104,7 @@ pub(crate) fn open<'a>(rt: &HostRuntime, name: &'a str) -> Result<Input<'a>, u8>
 pub(crate) fn create<'a>(
     files: &mut WrittenFiles<'a>,
     name: &'a str,
-    inputs: &[&Input<'_>],
+    inputs: &[ReadFile<'_>],
 ) -> Result<BufWriter<File>, u8> {
     files.create_wanted(Some(name), inputs)?.ok_or(NOT_RUN)
 }

@@ -1,7 +1,7 @@
 //! Machines, invariants and proofs, in files.
 use crate::files::{create, open};
 use circuit_check::{PartProofs, ProofFormat, exit_status, run_safe, write_safe};
-use command::{FAILED, WrittenFiles, say_cause};
+use command::{FAILED, HostNames, ReadFile, WrittenFiles, say_cause};
 use log::sink::Discard;
 use std::fs::File;
 use std::io;
@@ -58,7 +58,7 @@ pub(crate) fn write_machine<'a>(
 ) -> Result<u8, u8> {
     let mut files = WrittenFiles::new(rt);
     let (machine, invariant) = (open(rt, names.machine)?, open(rt, names.invariant)?);
-    let inputs = [&machine, &invariant];
+    let inputs = [ReadFile::of(rt, &machine), ReadFile::of(rt, &invariant)];
     let mut initial = create(&mut files, formulas.initial, &inputs)?;
     let mut step = create(&mut files, formulas.step, &inputs)?;
     let mut bad = create(&mut files, formulas.bad, &inputs)?;
@@ -71,12 +71,20 @@ pub(crate) fn write_machine<'a>(
         &mut bad,
     );
     say_cause(rt, &outcome);
-    let is_flushed = flush(rt, &mut initial) && flush(rt, &mut step) && flush(rt, &mut bad);
-    if outcome.is_ok() && is_flushed && files.finish().is_ok() {
-        Ok(0)
-    } else {
-        Err(FAILED)
+    if outcome.is_err()
+        || !flush(rt, &mut initial)
+        || !flush(rt, &mut step)
+        || !flush(rt, &mut bad)
+    {
+        return Err(FAILED);
     }
+    let given = &mut HostNames::new(rt);
+    let named = files
+        .name_buffered(given, formulas.initial, initial)
+        .and_then(|_| files.name_buffered(given, formulas.step, step))
+        .and_then(|_| files.name_buffered(given, formulas.bad, bad));
+    say_cause(rt, &named);
+    named.map(|_| 0).map_err(|_| FAILED)
 }
 
 /// Writes what a buffer holds, and returns whether it was written; standard error says why not.

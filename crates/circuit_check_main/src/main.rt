@@ -4,7 +4,8 @@
 //! false, and says it with the input and the outputs; or writes the formula that a solver is to
 //! refute. If an input or output has different names in two circuits, it warns, or with `--names`
 //! refuses. The command `circuit_check safe MACHINE INVARIANT` does the same for a machine that an
-//! invariant shows to be safe, with three proofs and three formulas.
+//! invariant shows to be safe, with three proofs and three formulas. The command `circuit_check
+//! safe MACHINE --stimulus STIMULUS` checks by a simulation that a machine is not safe.
 //!
 //! `--example` checks a small fixed example, `--help` says how the program is called, and
 //! `--version` of which version it is.
@@ -15,12 +16,14 @@ mod example;
 mod files;
 mod machines;
 mod names;
+mod stimuli;
 
 use crate::about::ABOUT;
 use crate::example::check_example;
 use crate::files::{Circuits, check_answer, check_files, write_files};
 use crate::machines::{MachineNames, PartNames, check_machine, write_machine};
 use crate::names::NameRule;
+use crate::stimuli::check_stimulus;
 use command::{Call, misused, run_program};
 use std::process::ExitCode;
 
@@ -36,6 +39,10 @@ fn run(rt: &HostRuntime, call: &Call<'_>) -> Result<u8, u8> {
         [claim, ..] if call.has("--names") && claim.as_str() != "same" => {
             Err(misused(rt, &ABOUT, "--names is of same"))
         }
+        [claim, _, other @ ..]
+            if call.has("--stimulus") && (claim.as_str() != "safe" || !other.is_empty()) => {
+            Err(misused(rt, &ABOUT, "--stimulus is of safe MACHINE"))
+        }
         [claim, circuit] if claim.as_str() == "never" => {
             run_circuits(rt, call, Circuits::Never(circuit.as_str()))
         }
@@ -47,10 +54,11 @@ fn run(rt: &HostRuntime, call: &Call<'_>) -> Result<u8, u8> {
             let (machine, invariant) = (machine.as_str(), invariant.as_str());
             run_machine(rt, call, MachineNames { machine, invariant })
         }
+        [claim, machine] if claim.as_str() == "safe" => run_stimulus(rt, call, machine.as_str()),
         _ => Err(misused(
             rt,
             &ABOUT,
-            "never CIRCUIT, same CIRCUIT OTHER, or safe MACHINE INVARIANT",
+            "never CIRCUIT, same CIRCUIT OTHER, safe MACHINE INVARIANT, or safe MACHINE --stimulus STIMULUS",
         )),
     }
 }
@@ -108,6 +116,14 @@ fn run_machine(rt: &HostRuntime, call: &Call<'_>, names: MachineNames<'_>) -> Re
             &ABOUT,
             "--init-proof, --step-proof and --bad-proof, or --init-formula, --step-formula and --bad-formula",
         )),
+    }
+}
+
+fn run_stimulus(rt: &HostRuntime, call: &Call<'_>, machine: &str) -> Result<u8, u8> {
+    let is_mixed = OPTIONS.iter().any(|flag| call.has(flag)) || parts_in(call) > 0;
+    match call.value("--stimulus") {
+        Some(stimulus) if !is_mixed => check_stimulus(rt, machine, stimulus),
+        _ => Err(misused(rt, &ABOUT, "safe MACHINE INVARIANT, or --stimulus alone")),
     }
 }
 

@@ -13,7 +13,7 @@ use crate::status::{NOT_RUN, help, version};
 use crate::streams::take_closed;
 use std::env::{Env, FillError};
 use std::fmt::Display;
-use std::io::Eprint;
+use std::io::{Eprint, Print};
 use std::process::ExitCode;
 use std::{env, str};
 
@@ -26,7 +26,10 @@ const WORD_LENGTH: usize = 4096;
 ///
 /// The exit status of a call that ends here: after `--help` and `--version`, or after a line on
 /// standard error that names the wrong word.
-fn start<'a>(rt: &HostRuntime, about: &'a About<'a>) -> Result<Call<'a>, u8>
+fn start<'a, R: Env + Print + Eprint + AllocGlobal>(
+    rt: &R,
+    about: &'a About<'a>,
+) -> Result<Call<'a>, u8>
     ensures ended { IfErr result IsEnd }
     ensures example { IfOk result IsExampleAlone }
 {
@@ -166,7 +169,7 @@ pub fn ids_of<R: Eprint, T: Copy>(
 }
 
 /// Prints to standard error each word of the call that is not UTF-8.
-fn say_unreadable(rt: &HostRuntime) {
+fn say_unreadable<R: Env + Eprint>(rt: &R) {
     let mut word = [0; WORD_LENGTH];
     for place in 1..usize::MAX {
         match rt.arg(place, &mut word) {
@@ -177,7 +180,7 @@ fn say_unreadable(rt: &HostRuntime) {
     }
 }
 
-fn say_no_text(rt: &HostRuntime, place: usize, word: &[u8]) {
+fn say_no_text<R: Eprint>(rt: &R, place: usize, word: &[u8]) {
     if str::from_utf8(word).is_err() {
         let word = word.escape_ascii();
         let _ = eprintln!(rt; "word {place} of the call is not UTF-8: {word}");

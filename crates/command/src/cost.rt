@@ -5,7 +5,7 @@ use crate::system::System;
 use std::alloc::AllocError;
 use std::fmt::Display;
 use std::fs;
-use std::rt::Clock;
+use std::rt::{Clock, Files};
 use std::time::Instant;
 
 /// The option that prints statistics.
@@ -110,7 +110,7 @@ impl Cost {
 }
 
 /// Returns the number after a name, in a file in which the system reports kilobytes.
-pub(crate) fn kilobytes(rt: &HostRuntime, file: &str, name: &str) -> Option<u64> {
+pub(crate) fn kilobytes<R: Files + AllocGlobal>(rt: &R, file: &str, name: &str) -> Option<u64> {
     let told = fs::read_to_string(rt, file).ok()?;
     let line = told.as_str().lines().find(|line| line.starts_with(name))?;
     line.split_ascii_whitespace().nth(1)?.parse().ok()

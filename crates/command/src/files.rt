@@ -5,10 +5,9 @@ ghost use Rattle.command.specs.Inputs.{IsOpenedBy, bytes_named, input_bytes_left
 
 use crate::system::System;
 use std::fmt::Display;
-use std::fs::{File, Metadata};
+use std::fs::File;
+use std::io;
 use std::io::{Eprint, Read, Stdin};
-use std::os::unix::fs::MetadataExt;
-use std::{fs, io};
 
 /// The name of standard input.
 pub(crate) const STANDARD_INPUT: &str = "-";
@@ -29,16 +28,6 @@ impl<F: Read, I: Read> Read for Source<F, I> {
         match self {
             Source::File(file) => file.read(buf),
             Source::StandardInput(stdin) => stdin.read(buf),
-        }
-    }
-}
-
-impl Source {
-    /// Returns what the host reports of it. Standard input is asked about by a name of the host.
-    pub(crate) fn metadata(&self, rt: &HostRuntime) -> io::Result<Metadata> {
-        match self {
-            Source::File(file) => file.metadata(),
-            Source::StandardInput(_) => fs::metadata(rt, "/proc/self/fd/0"),
         }
     }
 }
@@ -136,16 +125,6 @@ pub fn open_file<'a, S: System>(system: &S, name: &'a str) -> Option<InputOf<'a,
         Err(fault) => return refuse(system, name, fault),
     };
     Some(Input { name, file })
-}
-
-/// Returns whether both are the metadata of one regular file.
-pub(crate) fn is_one_file(one: &io::Result<Metadata>, other: &io::Result<Metadata>) -> bool {
-    match (one, other) {
-        (Ok(one), Ok(other)) => {
-            one.is_file() && one.dev() == other.dev() && one.ino() == other.ino()
-        }
-        _ => false,
-    }
 }
 
 /// Warns on standard error if the header of a formula does not match the clauses that were read.

@@ -9,8 +9,12 @@ mod example;
 mod files;
 mod guilty;
 mod held;
+mod host;
+mod host_files;
 mod kind;
+mod outputs;
 mod places;
+mod refusals;
 mod status;
 mod streams;
 mod system;
@@ -25,11 +29,14 @@ pub use example::{EXAMPLE, EXAMPLE_FORMULA, EXAMPLE_LRAT};
 pub use files::{Input, InputOf, Source, open_file, open_inputs, warn_of_header};
 pub use guilty::FaultLine;
 pub use held::HeldBytes;
+pub use host_files::HostNames;
 pub use kind::{Kind, kind_of};
+pub use outputs::{FileId, OutputSystem};
 pub use places::{
     FaultPlace, InputNames, hold_file, open_and_hold, say_cause, say_end, say_fault, say_missing,
 };
+pub use refusals::ReadFile;
 pub use status::{FAILED, NOT_RUN};
 pub use system::System;
 pub use told::{QUIET, RUST_LOG, VERBOSE, progress_of};
-pub use written::{OutputAfterFiles, WrittenFiles};
+pub use written::WrittenFiles;

@@ -5,7 +5,7 @@ ghost use Rattle.std.specs.declared.io.ErrorKind.TheVariants.{BrokenPipe};
 
 use crate::about::About;
 use std::io;
-use std::io::ErrorKind;
+use std::io::{Eprint, ErrorKind, Print};
 
 /// The exit status of a call that failed.
 pub const FAILED: u8 = 1;
@@ -18,14 +18,14 @@ const VERSION: &str = "0.3.0 (varisat-checker 0.2.2)";
 
 /// Prints a program's help. Returns the exit status: 0, also if the reader closed the pipe, or 1 if
 /// it can't be written.
-pub fn help(rt: &HostRuntime, about: &About<'_>) -> u8
+pub fn help<R: Print + Eprint>(rt: &R, about: &About<'_>) -> u8
     ensures { (result ≡ 0) ⊎ (result ≡ FAILED) }
 {
     status_of(rt, print!(rt; "{about}"))
 }
 
 /// Prints the version of the program of this name. Returns the exit status, as `help` does.
-pub fn version(rt: &HostRuntime, name: &str) -> u8
+pub fn version<R: Print + Eprint>(rt: &R, name: &str) -> u8
     ensures { (result ≡ 0) ⊎ (result ≡ FAILED) }
 {
     status_of(rt, println!(rt; "{name} {VERSION}"))
@@ -33,7 +33,7 @@ pub fn version(rt: &HostRuntime, name: &str) -> u8
 
 /// Returns the status of a call that only writes. A fault is printed to standard error, except for
 /// a closed pipe.
-fn status_of(rt: &HostRuntime, written: io::Result<()>) -> u8
+fn status_of<R: Eprint>(rt: &R, written: io::Result<()>) -> u8
     ensures written { OnOk written (result ≡ 0) }
     ensures unread { IfErr written (λ fault. error_kind fault ≡ BrokenPipe → result ≡ 0) }
     ensures failed { IfErr written (λ fault. error_kind fault ≢ BrokenPipe → result ≡ FAILED) }

@@ -1,14 +1,10 @@
 //! The system that a program runs on: files by their names, and standard input.
 ghost use Rattle.std.specs.Prelude.{◌≡◌, IfOk, IsNone, codes};
 
-use crate::cost::kilobytes;
 use log::filter::Filter;
-use progress::asked_for;
-use std::fs::{File, Metadata};
-use std::io::{Eprint, IsTerminal, Read, Stdin};
-use std::os::fd::AsFd;
+use std::io;
+use std::io::{Eprint, Read};
 use std::rt::Clock;
-use std::{fs, io};
 
 /// What a program asks of the system that it runs on. Nothing of it writes to standard output.
 ///
@@ -59,64 +55,4 @@ pub trait System: Eprint + Clock + AllocGlobal {
     /// standard input, whose bytes come only once.
     fn open_again(&self, name: &str) -> Option<Self::File>
         ensures { name.now ≡ codes "-" → IsNone result };
-}
-
-impl System for HostRuntime {
-    ghost use Rattle.std.specs.Prelude.{None};
-
-    type File = File;
-
-    type Input = Stdin;
-
-    ghost file_bytes = { λ _ _. None };
-
-    ghost input_bytes = { λ _. None };
-
-    fn open_file(&self, name: &str) -> io::Result<File> {
-        File::open(self, name)
-    }
-
-    fn standard_input(&self) -> io::Result<Stdin> {
-        let stdin = self.stdin();
-        let _open = stdin.as_fd().try_clone_to_owned()?;
-        Ok(stdin)
-    }
-
-    fn file_length(&self, file: &File) -> Option<u64> {
-        regular_length(file.metadata())
-    }
-
-    fn input_length(&self) -> Option<u64> {
-        regular_length(fs::metadata(self, "/proc/self/fd/0"))
-    }
-
-    fn free_kilobytes(&self) -> Option<u64> {
-        kilobytes(self, "/proc/meminfo", "MemAvailable:")
-    }
-
-    fn peak_kilobytes(&self) -> Option<u64> {
-        kilobytes(self, "/proc/self/status", "VmHWM:")
-    }
-
-    fn asked_log(&self) -> Filter {
-        asked_for(self)
-    }
-
-    fn has_terminal(&self) -> bool {
-        self.stderr().is_terminal()
-    }
-
-    fn open_again(&self, name: &str) -> Option<File> {
-        if name == "-" || !fs::metadata(self, name).ok()?.is_file() {
-            return None;
-        }
-        File::open(self, name).ok()
-    }
-}
-
-fn regular_length(data: io::Result<Metadata>) -> Option<u64> {
-    match data {
-        Ok(data) if data.is_file() => Some(data.len()),
-        _ => None,
-    }
 }

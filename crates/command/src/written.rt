@@ -1,14 +1,15 @@
-//! Files that are written: each under another name, until it is whole. What no contract can state
-//! of a handle is believed by reading this file.
-ghost use Rattle.std.specs.Prelude.{◌≡◌, ◌∷◌, ◌++◌, [], true, ◌⊎◌, IfErr, IfOk, IfSome, IsErr, IsNone, IsSome, codes, is_some, option_map, option_to_list};
+//! Files that are written: each under another name, until it is whole.
+ghost use Rattle.std.specs.Prelude.{◌≡◌, ◌∷◌, ◌++◌, [], true, ◌⊎◌, IfErr, IfOk, IfSome, IsErr, IsNone, Ok, OnErr, OnOk, Some, codes, is_some, option_map, option_to_list, string_bytes};
+ghost use Rattle.std.specs.Io.Buffered.{writer_contents};
+ghost use Rattle.command.specs.Outputs.{Gives, begun, place_of, written_in};
 ghost use Rattle.command.specs.Written.{is_among, is_read, names_of};
 
-use crate::files::{Input, STANDARD_INPUT, is_one_file, refuse};
+use crate::files::refuse;
+use crate::outputs::{FileId, OutputSystem};
+use crate::refusals::{ReadFile, is_one_file, refusal_of};
 use crate::status::NOT_RUN;
-use std::fs::{File, Metadata};
-use std::io::{BufWriter, Write};
-use std::os::unix::fs::MetadataExt;
-use std::{fs, io, process};
+use std::io;
+use std::io::{BufWriter, ErrorKind};
 
 /// What is appended, after a number, to the name of a file that is not whole.
 const UNFINISHED: &str = ".new";
@@ -23,33 +24,35 @@ const ONE_FILE: &str = "both outputs are one file";
 /// A regular file, or one that does not exist, is written as a new file, under a name that no
 /// other file has, and is renamed once all are whole. The old content stays until then. If it is
 /// not renamed, the new file is removed. A pipe or a device is written in place.
-pub struct WrittenFiles<'a> {
-    rt: &'a HostRuntime,
+pub struct WrittenFiles<'a, S: OutputSystem = HostRuntime> {
+    system: &'a S,
     /// The names of all, as the call has them.
     names: Vec<&'a str>,
-    /// Those that don't have their own names yet.
-    unfinished: Vec<Unfinished>,
+    /// Those that were created under another name.
+    unfinished: Vec<Unfinished<'a>>,
 }
 
-/// A file that does not have its own name yet.
+/// A file that was created under another name.
 #[derive(Drop)]
-struct Unfinished {
+struct Unfinished<'a> {
     name: String,
+    /// The name that it is to get.
     own_name: String,
-    /// Its device and inode number.
-    device: u64,
-    number: u64,
+    /// That name, as the call has it.
+    asked: &'a str,
+    id: FileId,
 }
 
-impl<'a> WrittenFiles<'a> {
+impl<'a, S: OutputSystem> WrittenFiles<'a, S> {
     /// Returns an empty set of files.
-    pub fn new(rt: &'a HostRuntime) -> WrittenFiles<'a>
-        ensures { names_of result ≡ [] }
+    pub fn new(system: &'a S) -> WrittenFiles<'a, S>
+        ensures empty { names_of result ≡ [] }
+        ensures system { result.system.now ≡ system.now }
     {
         WrittenFiles {
-            rt,
-            names: Vec::new(rt.alloc()),
-            unfinished: Vec::new(rt.alloc()),
+            system,
+            names: Vec::new(system.alloc()),
+            unfinished: Vec::new(system.alloc()),
         }
     }
 
@@ -58,7 +61,7 @@ impl<'a> WrittenFiles<'a> {
     /// Returns `None` if it can't be opened, if `refusal_of` gives a reason, or if it is another
     /// one of these files. Then standard error has a line that names it, and a second one with the
     /// reason.
-    pub fn create(&mut self, name: &'a str, inputs: &[&Input<'_>]) -> Option<File>
+    pub fn create(&mut self, name: &'a str, inputs: &[ReadFile<'_>]) -> Option<S::Output>
         ensures same { is_among name.now self.old ≡ true → IsNone result }
         ensures dash { name.now ≡ codes "-" → IsNone result }
         ensures empty { name.now ≡ [] → IsNone result }
@@ -67,20 +70,23 @@ impl<'a> WrittenFiles<'a> {
             ≡ names_of self.old ++ name.now ∷ []) }
         ensures kept { IsNone result → (names_of self.new ≡ names_of self.old)
             ⊎ (names_of self.new ≡ names_of self.old ++ name.now ∷ []) }
+        ensures system { self.new.system.now ≡ self.old.system.now }
+        ensures unwritten { IfSome result (λ file.
+            S.Output.contents file ≡ S.unwritten self.old.system.now) }
     {
         if self.has(name) || self.is_written(name) {
-            return refuse(self.rt, name, ONE_FILE);
+            return refuse(self.system, name, ONE_FILE);
         }
-        if let Some(why) = refusal_of(self.rt, name, inputs) {
-            return refuse(self.rt, name, why);
+        if let Some(why) = refusal_of(self.system, name, inputs) {
+            return refuse(self.system, name, why);
         }
         if self.names.push(name).is_err() {
-            return refuse(self.rt, name, "out of memory");
+            return refuse(self.system, name, "out of memory");
         }
-        match place_of(self.rt, name) {
-            Ok(Some(place)) => self.create_new(place),
-            Ok(None) => opened(self.rt, name, File::create(self.rt, name)),
-            Err(fault) => refuse(self.rt, name, fault),
+        match self.system.place_of(name) {
+            Ok(Some(own_name)) => self.create_new(name, own_name),
+            Ok(None) => opened(self.system, name, self.system.open_in_place(name)),
+            Err(fault) => refuse(self.system, name, fault),
         }
     }
 
@@ -92,8 +98,8 @@ impl<'a> WrittenFiles<'a> {
     pub fn create_wanted(
         &mut self,
         name: Option<&'a str>,
-        inputs: &[&Input<'_>],
-    ) -> Result<Option<BufWriter<File>>, u8>
+        inputs: &[ReadFile<'_>],
+    ) -> Result<Option<BufWriter<S::Output>>, u8>
         ensures err { IfErr result (λ status. status ≡ NOT_RUN) }
         ensures same { IfSome name.entry (λ name. is_among name.now self.old ≡ true
             → IsErr result) }
@@ -107,74 +113,92 @@ impl<'a> WrittenFiles<'a> {
         ensures kept { IsErr result → (names_of self.new ≡ names_of self.old)
             ⊎ (names_of self.new
             ≡ names_of self.old ++ option_to_list (option_map (λ name. name.now) name.entry)) }
+        ensures system { self.new.system.now ≡ self.old.system.now }
+        ensures unwritten { S.unwritten self.old.system.now ≡ Some [] → IfOk result (λ file.
+            written_in S.Output.contents file ≡ begun (option_map (λ name. name.now) name.entry)) }
     {
         let Some(name) = name else {
             return Ok(None);
         };
         let file = self.create(name, inputs).ok_or(NOT_RUN)?;
-        match BufWriter::new(self.rt.alloc(), file) {
+        match BufWriter::new(self.system.alloc(), file) {
             Ok(writer) => Ok(Some(writer)),
             Err(fault) => {
-                let _ = eprintln!(self.rt; "{fault}");
+                let _ = eprintln!(self.system; "{fault}");
                 Err(NOT_RUN)
             }
         }
     }
 
     /// Creates the new file that is renamed to this name.
-    fn create_new(&mut self, own_name: String) -> Option<File>
-        ensures { names_of self.new ≡ names_of self.old }
+    fn create_new(&mut self, asked: &'a str, own_name: String) -> Option<S::Output>
+        ensures names { names_of self.new ≡ names_of self.old }
+        ensures system { self.new.system.now ≡ self.old.system.now }
+        ensures unwritten { IfSome result (λ file.
+            S.Output.contents file ≡ S.unwritten self.old.system.now) }
     {
         let (file, name) = self.fresh_file(own_name.as_str())?;
-        self.add(file, name, own_name)
+        self.add(file, name, asked, own_name)
     }
 
     /// Creates a file whose name ends in the first number, from the process id on, for which there
     /// is none. So no file is overwritten, also none of another run.
-    fn fresh_file(&self, own_name: &str) -> Option<(File, String)> {
-        let rt = self.rt;
-        let first = process::id(rt.process());
+    fn fresh_file(&self, own_name: &str) -> Option<(S::Output, String)>
+        ensures { IfSome result (λ made.
+            S.Output.contents made.0 ≡ S.unwritten self.now.system.now) }
+    {
+        let system = self.system;
+        let first = system.process_number();
         for number in first..first.saturating_add(TRIES) {
-            let name = match format!(in rt.alloc(); "{own_name}.{number}{UNFINISHED}") {
+            let name = match format!(in system.alloc(); "{own_name}.{number}{UNFINISHED}") {
                 Ok(name) => name,
-                Err(fault) => return refuse(rt, own_name, fault),
+                Err(fault) => return refuse(system, own_name, fault),
             };
             // If one of these has the name, it is for the same output, by another path.
             if self.is_written(name.as_str()) {
-                return refuse(rt, own_name, ONE_FILE);
+                return refuse(system, own_name, ONE_FILE);
             }
-            match File::create_new(rt, name.as_str()) {
+            match system.open_new(name.as_str()) {
                 Ok(file) => return Some((file, name)),
-                Err(fault) if fault.kind() == io::ErrorKind::AlreadyExists => {}
-                Err(fault) => return refuse(rt, own_name, fault),
+                Err(fault) if fault.kind() == ErrorKind::AlreadyExists => {}
+                Err(fault) => return refuse(system, own_name, fault),
             }
         }
-        refuse(rt, own_name, "no name is left for the new file")
+        refuse(system, own_name, "no name is left for the new file")
     }
 
     /// Adds a file that was just created and that is still to be renamed.
-    fn add(&mut self, file: File, name: String, own_name: String) -> Option<File>
-        ensures { names_of self.new ≡ names_of self.old }
+    fn add(
+        &mut self,
+        file: S::Output,
+        name: String,
+        asked: &'a str,
+        own_name: String,
+    ) -> Option<S::Output>
+        ensures names { names_of self.new ≡ names_of self.old }
+        ensures system { self.new.system.now ≡ self.old.system.now }
+        ensures same { IfSome result (λ added. added ≡ file) }
     {
-        let rt = self.rt;
-        let made = match prepare(rt, &file, own_name.as_str()) {
-            Ok(made) => made,
-            Err(fault) => {
-                let _ = fs::remove_file(rt, name.as_str());
-                return refuse(rt, own_name.as_str(), fault);
-            }
+        let system = self.system;
+        let id = match system.id_of_output(&file) {
+            Ok(id) => id,
+            Err(fault) => return refuse(system, own_name.as_str(), fault),
         };
+        if let Err(fault) = system.take_permissions(&file, own_name.as_str()) {
+            system.remove(name.as_str(), id);
+            return refuse(system, own_name.as_str(), fault);
+        }
         let added = self.unfinished.push(Unfinished {
             name,
             own_name,
-            device: made.dev(),
-            number: made.ino(),
+            asked,
+            id,
         });
         match added {
             Ok(()) => Some(file),
             Err(failed) => {
-                failed.value.take_away(rt);
-                refuse(rt, failed.value.own_name.as_str(), "out of memory")
+                failed.value.take_away(system);
+                refuse(system, failed.value.own_name.as_str(), "out of memory")
             }
         }
     }
@@ -194,173 +218,129 @@ impl<'a> WrittenFiles<'a> {
     /// Returns whether one of these will have this name, or is, or will replace, the regular file
     /// that the name leads to.
     fn is_written(&self, name: &str) -> bool {
-        let there = fs::metadata(self.rt, name);
+        let there = self.system.id_of_name(name);
         self.unfinished.iter().any(|file| {
             file.own_name.as_str() == name
-                || is_one_file(&there, &fs::metadata(self.rt, file.name.as_str()))
-                || is_one_file(&there, &fs::metadata(self.rt, file.own_name.as_str()))
+                || is_one_file(there, Some(file.id))
+                || is_one_file(there, self.system.id_of_name(file.own_name.as_str()))
         })
     }
 
-    /// Renames each file to its own name, if that was not done.
+    /// Gives one of these files, if it is wanted, the name with which it was created. What a buffer
+    /// still holds is written before. The other outputs of the call must be whole.
     ///
     /// # Errors
     ///
-    /// That of the first rename that fails; a line on standard error names the file.
-    pub fn finish(&mut self) -> io::Result<()>
-        ensures { names_of self.new ≡ names_of self.old }
+    /// That of the write or of the rename that failed; no name is given then.
+    pub fn name_wanted(
+        &self,
+        names: &mut S::Names,
+        name: Option<&str>,
+        file: Option<BufWriter<S::Output>>,
+    ) -> io::Result<()>
+        ensures named { OnOk result (Gives (S.renamed names.old) (S.renamed names.new)
+            (place_of (S.place self.now.system.now) (option_map (λ name. name.now) name.entry))
+            (written_in S.Output.contents file)) }
+        ensures kept { OnErr result (S.renamed names.new ≡ S.renamed names.old) }
     {
-        for file in &self.unfinished {
-            if let Err(fault) = file.take_own_name(self.rt) {
-                let (name, own_name) = (file.name.as_str(), file.own_name.as_str());
-                let _ = eprintln!(self.rt; "cannot rename {name} as {own_name}");
-                return Err(fault);
-            }
+        match (name, file) {
+            (None, _) => Ok(()),
+            (Some(name), Some(file)) => self.name_buffered(names, name, file),
+            (Some(_), None) => Err(io::Error::from(ErrorKind::NotFound)),
         }
-        self.unfinished = Vec::new(self.rt.alloc());
-        Ok(())
+    }
+
+    /// Gives one of these files the name with which it was created.
+    ///
+    /// # Errors
+    ///
+    /// That of the rename, or `NotFound` if the name leads elsewhere by now; no name is given then.
+    pub fn name_file(&self, names: &mut S::Names, name: &str, file: S::Output) -> io::Result<()>
+        ensures named { OnOk result (Gives (S.renamed names.old) (S.renamed names.new)
+            (S.place self.now.system.now name.now) (S.Output.contents file)) }
+        ensures kept { OnErr result (S.renamed names.new ≡ S.renamed names.old) }
+    {
+        let own_name = self.system.place_of(name)?;
+        match (self.unfinished_for(name), own_name) {
+            (None, None) => Ok(()),
+            (Some(new), Some(own_name)) if new.own_name == own_name => {
+                self.rename(names, file, new.name.as_str(), own_name.as_str())
+            }
+            _ => Err(io::Error::from(ErrorKind::NotFound)),
+        }
+    }
+
+    /// Gives one of these files the name with which it was created. What the buffer still holds is
+    /// written before.
+    ///
+    /// # Errors
+    ///
+    /// That of the write, or as of `name_file`.
+    #[tactic(auto, using(crate::proofs::Giving::gives_kept))]
+    pub fn name_buffered(
+        &self,
+        names: &mut S::Names,
+        name: &str,
+        file: BufWriter<S::Output>,
+    ) -> io::Result<()>
+        ensures named { OnOk result (Gives (S.renamed names.old) (S.renamed names.new)
+            (S.place self.now.system.now name.now) (writer_contents S.Output.contents file)) }
+        ensures kept { OnErr result (S.renamed names.new ≡ S.renamed names.old) }
+    {
+        self.name_file(names, name, file.into_inner()?)
+    }
+
+    /// Renames a file. If that fails, a line on standard error names it.
+    fn rename(
+        &self,
+        names: &mut S::Names,
+        file: S::Output,
+        name: &str,
+        own_name: &str,
+    ) -> io::Result<()>
+        ensures named { OnOk result (Gives (S.renamed names.old) (S.renamed names.new)
+            (S.place self.now.system.now own_name.now) (S.Output.contents file)) }
+        ensures kept { OnErr result (S.renamed names.new ≡ S.renamed names.old) }
+    {
+        let renamed = self.system.rename(names, file, name, own_name);
+        if renamed.is_err() {
+            let _ = eprintln!(self.system; "cannot rename {name} as {own_name}");
+        }
+        renamed
+    }
+
+    /// Returns the file that was created under another name for this one of the call.
+    fn unfinished_for(&self, name: &str) -> Option<&Unfinished<'a>> {
+        self.unfinished.iter().find(|file| file.asked == name)
     }
 }
 
-impl Drop for WrittenFiles<'_> {
+impl<S: OutputSystem> Drop for WrittenFiles<'_, S> {
     fn drop(self) {
         let WrittenFiles {
-            rt,
+            system,
             names: _,
             unfinished,
         } = self;
         for file in &unfinished {
-            file.take_away(rt);
+            file.take_away(system);
         }
     }
 }
 
-impl Unfinished {
-    /// Returns whether it still has the name that it was created with.
-    fn is_there(&self, rt: &HostRuntime) -> bool {
-        match fs::symlink_metadata(rt, self.name.as_str()) {
-            Ok(there) => there.dev() == self.device && there.ino() == self.number,
-            Err(_) => false,
-        }
+impl Unfinished<'_> {
+    /// Removes the file, if it still has the name that it was created with.
+    fn take_away<S: OutputSystem>(&self, system: &S) {
+        system.remove(self.name.as_str(), self.id);
     }
-
-    /// Removes the file, if it still has that name.
-    fn take_away(&self, rt: &HostRuntime) {
-        if self.is_there(rt) {
-            let _ = fs::remove_file(rt, self.name.as_str());
-        }
-    }
-
-    /// Renames the file to its own name, if it still has the name that it was created with.
-    fn take_own_name(&self, rt: &HostRuntime) -> io::Result<()> {
-        if !self.is_there(rt) {
-            return Err(io::Error::from(io::ErrorKind::NotFound));
-        }
-        fs::rename(rt, self.name.as_str(), self.own_name.as_str())
-    }
-}
-
-/// Standard output, to which nothing is written before each file of a call has its own name.
-#[derive(Drop)]
-pub struct OutputAfterFiles<'a, 'b> {
-    files: &'b mut WrittenFiles<'a>,
-}
-
-impl<'a, 'b> OutputAfterFiles<'a, 'b> {
-    /// Returns standard output after these files.
-    pub fn new(files: &'b mut WrittenFiles<'a>) -> OutputAfterFiles<'a, 'b> {
-        OutputAfterFiles { files }
-    }
-}
-
-impl Write for OutputAfterFiles<'_, '_> {
-    fn write(&mut self, buf: &[u8]) -> io::Result<usize> {
-        self.files.finish()?;
-        io::writer(self.files.rt).write(buf)
-    }
-
-    fn flush(&mut self) -> io::Result<()> {
-        io::writer(self.files.rt).flush()
-    }
-}
-
-/// Returns the name of a regular file, or of one that does not exist, with links followed; `None`
-/// for anything else.
-fn place_of(rt: &HostRuntime, name: &str) -> io::Result<Option<String>> {
-    if let Ok(there) = fs::metadata(rt, name) {
-        if !there.is_file() {
-            return Ok(None);
-        }
-        if fs::symlink_metadata(rt, name)?.is_symlink() {
-            return Ok(Some(fs::canonicalize(rt, name)?.into_string()));
-        }
-    }
-    Ok(Some(String::from_str(rt.alloc(), name)?))
-}
-
-/// Gives a file the permissions of the one that it will replace. Returns its metadata.
-fn prepare(rt: &HostRuntime, file: &File, own_name: &str) -> io::Result<Metadata> {
-    if let Ok(there) = fs::metadata(rt, own_name) {
-        file.set_permissions(there.permissions())?;
-    }
-    file.metadata()
 }
 
 /// Returns the file, or prints why it can't be opened.
-fn opened(rt: &HostRuntime, name: &str, file: io::Result<File>) -> Option<File> {
+fn opened<S: OutputSystem>(system: &S, name: &str, file: io::Result<S::Output>) -> Option<S::Output>
+    ensures { IfSome result (λ opened. file ≡ Ok opened) }
+{
     match file {
         Ok(file) => Some(file),
-        Err(fault) => refuse(rt, name, fault),
+        Err(fault) => refuse(system, name, fault),
     }
-}
-
-/// Returns why a name may not be written: it is empty, it is `-`, one of the inputs has it, or by
-/// the system it is a link to nothing, or leads to the regular file of an input, of standard output
-/// or of standard error.
-fn refusal_of(rt: &HostRuntime, name: &str, inputs: &[&Input<'_>]) -> Option<&'static str>
-    ensures dash { name.now ≡ codes "-" → IsSome result }
-    ensures empty { name.now ≡ [] → IsSome result }
-    ensures named { is_read name.now inputs.now ≡ true → IsSome result }
-{
-    let there = fs::metadata(rt, name);
-    if name == STANDARD_INPUT {
-        Some("- is standard input, and no output")
-    } else if name.is_empty() {
-        Some("the name of an output is empty")
-    } else if is_read(rt, name, &there, inputs) {
-        Some("the output is a file that is read")
-    } else if is_one_file(&there, &fs::metadata(rt, "/proc/self/fd/1")) {
-        Some("the output is the file of standard output")
-    } else if is_one_file(&there, &fs::metadata(rt, "/proc/self/fd/2")) {
-        Some("the output is the file of standard error")
-    } else if there.is_err() && is_link(rt, name) {
-        Some("the output is a link that leads to nothing")
-    } else {
-        None
-    }
-}
-
-/// Returns whether a name is that of a link.
-fn is_link(rt: &HostRuntime, name: &str) -> bool {
-    match fs::symlink_metadata(rt, name) {
-        Ok(there) => there.is_symlink(),
-        Err(_) => false,
-    }
-}
-
-/// Returns whether one of the inputs has this name, or is the regular file that it leads to.
-fn is_read(
-    rt: &HostRuntime,
-    name: &str,
-    there: &io::Result<Metadata>,
-    inputs: &[&Input<'_>],
-) -> bool
-    ensures { is_read name.now inputs.now ≡ true → result ≡ true }
-{
-    for input in inputs {
-        if input.name == name || is_one_file(there, &input.file.metadata(rt)) {
-            return true;
-        }
-    }
-    false
 }

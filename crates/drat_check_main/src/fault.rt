@@ -1,5 +1,5 @@
 //! What is said of a run that has no verdict, and what was counted.
-use command::{Call, Cost, FaultPlace, StatsForm};
+use command::{Call, Cost, FaultPlace, StatsForm, System};
 use drat_check::{PieceFault, ProofFormat, RunCounts, RunFault};
 use sat_formula::DimacsFault;
 use std::io;
@@ -50,7 +50,7 @@ pub(crate) fn is_unread(fault: &PieceFault) -> bool {
 }
 
 /// Prints what a run counted, up to where it ended, and what it cost.
-pub(crate) fn say_stats(rt: &HostRuntime, form: StatsForm, counts: RunCounts, cost: Cost) {
+pub(crate) fn say_stats<S: System>(system: &S, form: StatsForm, counts: RunCounts, cost: Cost) {
     let counts = [
         ("steps", counts.steps),
         ("lemmas", counts.lemmas),
@@ -58,5 +58,5 @@ pub(crate) fn say_stats(rt: &HostRuntime, form: StatsForm, counts: RunCounts, co
         ("hints", counts.hints),
         ("core_clauses", counts.core),
     ];
-    cost.say(rt, form, &counts);
+    cost.say(system, form, &counts);
 }

@@ -1,67 +1,135 @@
 //! A whole proof, in a file.
+ghost use Rattle.std.specs.Prelude.{◌≡◌, ℕ, List, [], Ok, Some, IfErr, IfOk, OnOk, IsErr};
+ghost use Rattle.std.specs.Io.KnownBytes.{Appends};
+ghost use Rattle.std.specs.Io.Buffered.{writer_contents};
+ghost use Rattle.command.specs.Calls.{choices_of};
+ghost use Rattle.command.specs.Inputs.{bytes_named};
+ghost use Rattle.command.specs.Outputs.{begun};
+ghost use Rattle.drat_check.specs.Outputs.{bytes_in};
+ghost use Rattle.drat_check_main.specs.Named.{GivesAll, NamesProof, core_name, lrat_name, trim_name};
+ghost use Rattle.piece_runs.specs.Texts.{OfFormula};
+ghost use Rattle.sat_formula.specs.Refuted.{IsRefuted};
+ghost use Rattle.verdicts.specs.Verdicts.{shown_line};
+ghost use Rattle.verdicts.specs.declared.verdict.Verdict.TheVariants.{Verified};
+
 use crate::about::ABOUT;
 use crate::fault::{place_of, say_stats, unread_formula};
-use crate::form_of;
+use crate::outputs::{Finished, create_outputs, name_outputs};
 use command::{
-    Call, Cost, FaultPlace, Input, InputNames, NOT_RUN, OutputAfterFiles, StatsForm, WrittenFiles,
+    Call, Cost, FaultPlace, InputNames, NOT_RUN, OutputSystem, ReadFile, StatsForm, WrittenFiles,
     hold_file, open_inputs, progress_of, say_fault, warn_of_header,
 };
-use drat_check::{Outputs, ProofFormat, RunFault, exit_status, run_check};
-use std::cell::Cell;
-use std::fs::File;
-use std::io::BufWriter;
+use drat_check::{ProofFormat, RunFault, exit_status, run_check};
+use std::io;
+use std::io::Write;
+use verdicts::{Verdict, write_line};
 
 /// Checks a proof. The files that are written are made once both others are open, and before
 /// anything is read. They have their names before the verdict's line is written. The formula is
 /// read whole, and let go once its clauses are taken.
-pub(crate) fn check_files(
-    rt: &HostRuntime,
+pub(crate) fn check_files<S: OutputSystem, W: Write>(
+    system: &S,
     names: InputNames<'_>,
     format: ProofFormat,
     call: &Call<'_>,
-) -> Result<u8, u8> {
-    let cost = Cost::from_now(rt);
-    let (cnf, proof) = open_inputs(rt, names.cnf, names.other).ok_or(NOT_RUN)?;
-    let mut files = WrittenFiles::new(rt);
-    let outputs = &mut create_outputs(&mut files, call, &[&cnf, &proof])?;
-    let cnf = hold_file(rt, names, cnf, FaultPlace::Formula(None), unread_formula)?;
-    let progress = &progress_of(rt, &ABOUT, call);
-    let proof = proof.told(rt, progress);
-    let out = &mut OutputAfterFiles::new(&mut files);
+    given: &mut S::Names,
+    out: &mut W,
+) -> Result<u8, u8>
+    ensures refutes { (text : List ℕ)
+        → bytes_named (S.file_bytes system.now) (S.input_bytes system.now) names.entry.cnf.now ≡ Some text
+        → result ≡ Ok 0 → IsRefuted text }
+    ensures line { result ≡ Ok 0
+        → Appends (W.contents out.old) (W.contents out.new) (shown_line Verified) }
+    ensures outputs { (text : List ℕ)
+        → bytes_named (S.file_bytes system.now) (S.input_bytes system.now) names.entry.cnf.now ≡ Some text
+        → S.unwritten system.now ≡ Some [] → result ≡ Ok 0
+        → OfFormula (Some text) (NamesProof (S.place system.now) (choices_of call.now)
+        (S.renamed given.old) (S.renamed given.new)) }
+    ensures empty { S.unwritten system.now ≡ Some [] → result ≡ Ok 3
+        → GivesAll (S.place system.now) (choices_of call.now)
+        (begun (lrat_name (choices_of call.now))) (begun (trim_name (choices_of call.now)))
+        (begun (core_name (choices_of call.now))) (S.renamed given.old) (S.renamed given.new) }
+    ensures unnamed { IfErr result (λ status. S.renamed given.new ≡ S.renamed given.old) }
+{
+    let cost = Cost::from_now(system);
+    let (cnf, proof) = open_inputs(system, names.cnf, names.other).ok_or(NOT_RUN)?;
+    let mut files = WrittenFiles::new(system);
+    let inputs = [ReadFile::of(system, &cnf), ReadFile::of(system, &proof)];
+    let mut outputs = create_outputs(&mut files, call, &inputs)?;
+    let cnf = hold_file(
+        system,
+        names,
+        cnf,
+        FaultPlace::Formula(None),
+        unread_formula,
+    )?;
+    let progress = &progress_of(system, &ABOUT, call);
+    let proof = proof.told(system, progress);
     let mut lie = None;
-    let outcome = run_check(
+    let checked = run_check(
         progress,
-        rt.alloc(),
+        system.alloc(),
         cnf,
         proof,
         format,
-        outputs,
-        out,
+        &mut outputs,
+        &mut io::sink(),
         &mut lie,
     );
+    let counts = outputs.counts.get();
+    let finished = Finished {
+        lrat: outputs.lrat,
+        trim: outputs.trim,
+        core: outputs.core,
+    };
+    let outcome = show(&files, call, finished, checked, given, out);
     if let Err(fault) = &outcome {
-        say_fault(rt, names, fault, place_of(fault, format, call));
+        say_fault(system, names, fault, place_of(fault, format, call));
     }
-    warn_of_header(rt, names.cnf, &lie);
+    warn_of_header(system, names.cnf, &lie);
     if let Some(form) = StatsForm::of(call)
         && !matches!(outcome, Err(RunFault::Formula(_)))
     {
-        say_stats(rt, form, outputs.counts.get(), cost);
+        say_stats(system, form, counts, cost);
     }
     Ok(exit_status(&outcome))
 }
 
-/// Makes the optional outputs. None of them is one of the inputs, nor is one file made twice.
-pub(crate) fn create_outputs<'a>(
-    files: &mut WrittenFiles<'a>,
-    call: &'a Call<'_>,
-    inputs: &[&Input<'_>],
-) -> Result<Outputs<BufWriter<File>, BufWriter<File>>, u8> {
-    Ok(Outputs {
-        lrat: files.create_wanted(call.value("--lrat"), inputs)?,
-        form: form_of(call),
-        trim: files.create_wanted(call.value("--trim"), inputs)?,
-        core: files.create_wanted(call.value("--core"), inputs)?,
-        counts: Cell::default(),
-    })
+/// Gives the outputs of a run that has a verdict their names, and then writes the verdict's line.
+///
+/// # Errors
+///
+/// That of the run, after which nothing has its name and nothing is written; or `Write` with the
+/// rename or the write that failed.
+fn show<S: OutputSystem, W: Write>(
+    files: &WrittenFiles<'_, S>,
+    call: &Call<'_>,
+    outputs: Finished<S::Output>,
+    checked: Result<Verdict, RunFault>,
+    given: &mut S::Names,
+    out: &mut W,
+) -> Result<Verdict, RunFault>
+    ensures verdict { IfOk result (λ verdict. checked ≡ Ok verdict) }
+    ensures line { IfOk result (λ verdict.
+        Appends (W.contents out.old) (W.contents out.new) (shown_line verdict)) }
+    ensures named { OnOk result (GivesAll
+        (S.place files.now.system.now) (choices_of call.now)
+        (bytes_in (writer_contents S.Output.contents) outputs.lrat)
+        (bytes_in (writer_contents S.Output.contents) outputs.trim)
+        (bytes_in (writer_contents S.Output.contents) outputs.core) (S.renamed given.old) (S.renamed given.new)) }
+    ensures unnamed { IsErr checked → S.renamed given.new ≡ S.renamed given.old }
+    ensures silent { IsErr checked → out.new ≡ out.old }
+{
+    let verdict = match checked {
+        Ok(verdict) => verdict,
+        Err(fault) => return Err(fault),
+    };
+    match name_outputs(files, call, outputs, given) {
+        Ok(()) => {}
+        Err(fault) => return Err(RunFault::Write(fault)),
+    }
+    match write_line(out, verdict) {
+        Ok(()) => Ok(verdict),
+        Err(fault) => Err(RunFault::Write(fault)),
+    }
 }

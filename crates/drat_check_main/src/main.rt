@@ -12,60 +12,126 @@
 //! logged to standard error; else nothing is.
 #![tactic(auto)]
 
+ghost use Rattle.std.specs.Prelude.{◌≡◌, ℕ, List, [], ◌∷◌, None, Ok, Some, codes, false, IfErr};
+ghost use Rattle.std.specs.Io.KnownBytes.{Appends};
+ghost use Rattle.command.specs.Calls.{choices_of, is_given, operands_of, value_given};
+ghost use Rattle.command.specs.Inputs.{bytes_named};
+ghost use Rattle.command.specs.Outputs.{begun};
+ghost use Rattle.drat_check_main.specs.Named.{GivesAll, NamesPiece, NamesProof, core_name, lrat_name, trim_name};
+ghost use Rattle.drat_check_main.specs.Pieces.{ShowsPiece};
+ghost use Rattle.piece_runs.specs.Texts.{OfFormula};
+ghost use Rattle.sat_formula.specs.Refuted.{IsRefuted};
+ghost use Rattle.verdicts.specs.Verdicts.{shown_line};
+ghost use Rattle.verdicts.specs.declared.verdict.Verdict.TheVariants.{Verified};
+
 mod about;
 mod example;
 mod fault;
 mod files;
+mod outputs;
 mod piece;
 
 use crate::about::ABOUT;
 use crate::example::check_example;
 use crate::files::check_files;
 use crate::piece::check_piece;
-use command::{Call, input_names, misused, run_program};
-use drat_check::{LineForm, ProofFormat};
+use command::{Call, HostNames, OutputSystem, input_names, misused, run_program};
+use drat_check::ProofFormat;
+use std::io;
+use std::io::Write;
 use std::process::ExitCode;
 
 fn main(rt: HostRuntime) -> ExitCode {
-    run_program(&rt, &ABOUT, |call| run(&rt, call))
+    run_program(&rt, &ABOUT, |call| {
+        run(&rt, call, &mut HostNames::new(&rt), &mut io::writer(&rt))
+    })
 }
 
-fn run(rt: &HostRuntime, call: &Call<'_>) -> Result<u8, u8> {
+/// Runs a call in a system, with `out` as its standard output.
+fn run<S: OutputSystem, W: Write>(
+    system: &S,
+    call: &Call<'_>,
+    given: &mut S::Names,
+    out: &mut W,
+) -> Result<u8, u8>
+    ensures refutes { (cnf proof text : List ℕ)
+        → operands_of call.now ≡ cnf ∷ proof ∷ []
+        → is_given (choices_of call.now) (codes "--example") ≡ false
+        → value_given (choices_of call.now) (codes "--holds") ≡ None
+        → bytes_named (S.file_bytes system.now) (S.input_bytes system.now) cnf ≡ Some text
+        → result ≡ Ok 0 → IsRefuted text }
+    ensures line { value_given (choices_of call.now) (codes "--holds") ≡ None → result ≡ Ok 0
+        → Appends (W.contents out.old) (W.contents out.new) (shown_line Verified) }
+    ensures outputs { (cnf proof text : List ℕ)
+        → operands_of call.now ≡ cnf ∷ proof ∷ []
+        → is_given (choices_of call.now) (codes "--example") ≡ false
+        → value_given (choices_of call.now) (codes "--holds") ≡ None
+        → bytes_named (S.file_bytes system.now) (S.input_bytes system.now) cnf ≡ Some text
+        → S.unwritten system.now ≡ Some [] → result ≡ Ok 0
+        → OfFormula (Some text) (NamesProof (S.place system.now) (choices_of call.now)
+        (S.renamed given.old) (S.renamed given.new)) }
+    ensures empty { (cnf proof : List ℕ)
+        → operands_of call.now ≡ cnf ∷ proof ∷ []
+        → is_given (choices_of call.now) (codes "--example") ≡ false
+        → value_given (choices_of call.now) (codes "--holds") ≡ None
+        → S.unwritten system.now ≡ Some [] → result ≡ Ok 3
+        → GivesAll (S.place system.now) (choices_of call.now)
+        (begun (lrat_name (choices_of call.now))) (begun (trim_name (choices_of call.now)))
+        (begun (core_name (choices_of call.now))) (S.renamed given.old) (S.renamed given.new) }
+    ensures piece { (cnf proof holds text wanted : List ℕ)
+        → operands_of call.now ≡ cnf ∷ proof ∷ []
+        → is_given (choices_of call.now) (codes "--example") ≡ false
+        → value_given (choices_of call.now) (codes "--holds") ≡ Some holds
+        → bytes_named (S.file_bytes system.now) (S.input_bytes system.now) cnf ≡ Some text
+        → S.file_bytes system.now holds ≡ Some wanted
+        → result ≡ Ok 0 → ShowsPiece text wanted (W.contents out.old) (W.contents out.new) }
+    ensures piece_outputs { (cnf proof holds text wanted : List ℕ)
+        → operands_of call.now ≡ cnf ∷ proof ∷ []
+        → is_given (choices_of call.now) (codes "--example") ≡ false
+        → value_given (choices_of call.now) (codes "--holds") ≡ Some holds
+        → bytes_named (S.file_bytes system.now) (S.input_bytes system.now) cnf ≡ Some text
+        → S.file_bytes system.now holds ≡ Some wanted
+        → S.unwritten system.now ≡ Some [] → result ≡ Ok 0
+        → NamesPiece (S.place system.now) (choices_of call.now) (Some text) (Some wanted)
+        (S.renamed given.old) (S.renamed given.new) }
+    ensures unnamed { IfErr result (λ status. S.renamed given.new ≡ S.renamed given.old) }
+{
     if call.has("--example") {
-        return Ok(check_example(rt));
+        return Ok(check_example(system, out));
     }
+    let format = format_of(system, call)?;
+    let names = input_names(system, &ABOUT, call)?;
+    match call.value("--holds") {
+        Some(holds) => check_piece(system, names, holds, format, call, given, out),
+        None => check_files(system, names, format, call, given, out),
+    }
+}
+
+/// Returns the format of the proof that a call names.
+///
+/// # Errors
+///
+/// The exit status 2 if options exclude each other.
+fn format_of<S: OutputSystem>(system: &S, call: &Call<'_>) -> Result<ProofFormat, u8> {
     let format = match (call.has("--drat"), call.has("--frat"), call.has("--lpr")) {
         (false, false, false) => ProofFormat::Told,
         (true, false, false) => ProofFormat::Drat,
         (false, true, false) => ProofFormat::Frat,
         (false, false, true) => ProofFormat::Lpr,
-        _ => return Err(misused(rt, &ABOUT, "--drat, --frat and --lpr exclude each other")),
+        _ => {
+            let why = "--drat, --frat and --lpr exclude each other";
+            return Err(misused(system, &ABOUT, why));
+        }
     };
     if call.has("--binary") && call.value("--lrat").is_none() {
-        return Err(misused(rt, &ABOUT, "--binary says how --lrat is written"));
+        return Err(misused(system, &ABOUT, "--binary says how --lrat is written"));
     }
     if call.has("--holds") && call.has("--trim") {
-        return Err(misused(rt, &ABOUT, "--holds excludes --trim"));
+        return Err(misused(system, &ABOUT, "--holds excludes --trim"));
     }
     if call.has("--holds") && call.has("--lrat") && call.has("--core") {
-        return Err(misused(
-            rt,
-            &ABOUT,
-            "with --holds, --lrat and --core exclude each other",
-        ));
+        let why = "with --holds, --lrat and --core exclude each other";
+        return Err(misused(system, &ABOUT, why));
     }
-    let names = input_names(rt, &ABOUT, call)?;
-    match call.value("--holds") {
-        Some(holds) => check_piece(rt, names, holds, format, call),
-        None => check_files(rt, names, format, call),
-    }
-}
-
-/// How the lines of `--lrat` are written.
-fn form_of(call: &Call<'_>) -> LineForm {
-    if call.has("--binary") {
-        LineForm::Binary
-    } else {
-        LineForm::Text
-    }
+    Ok(format)
 }

@@ -1,6 +1,6 @@
 //! Reads a proof and writes its pieces.
 use crate::fault::CutFailure;
-use crate::files::{PieceFiles, finish};
+use crate::files::PieceFiles;
 use crate::piece::{Limits, Piece};
 use command::WrittenFiles;
 use drat_cut::{Additions, Cutter, Taken};
@@ -73,7 +73,7 @@ fn write_piece<P: Read + Drop, L: Log>(
     if goes_on {
         files.write_live(number.saturating_add(1), cutter)?;
     }
-    finish(out, &mut written)?;
+    files.finish(name.as_str(), out, &written)?;
     files.say(told, number, piece.lemmas, cutter.live_count())?;
     Ok(goes_on)
 }

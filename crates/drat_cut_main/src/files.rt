@@ -1,12 +1,12 @@
 //! The files of the pieces. Each has its name once it is whole.
 use crate::fault::CutFailure;
-use command::{Input, Source, System, WrittenFiles};
+use command::{HostNames, Input, ReadFile, Source, System, WrittenFiles};
 use drat_cut::Cutter;
 use log::Log;
 use std::alloc::AllocError;
 use std::fs::File;
 use std::io;
-use std::io::{BufWriter, Write};
+use std::io::BufWriter;
 
 /// Where the pieces go.
 #[derive(Drop)]
@@ -45,7 +45,11 @@ impl<'a> PieceFiles<'a> {
         files: &mut WrittenFiles<'b>,
         name: &'b str,
     ) -> Result<BufWriter<File>, CutFailure> {
-        match files.create(name, &[&self.cnf, &self.proof]) {
+        let (cnf, proof) = (
+            ReadFile::of(self.rt, &self.cnf),
+            ReadFile::of(self.rt, &self.proof),
+        );
+        match files.create(name, &[cnf, proof]) {
             Some(file) => Ok(BufWriter::new(self.rt.alloc(), file)?),
             None => Err(CutFailure::Unopened),
         }
@@ -57,7 +61,18 @@ impl<'a> PieceFiles<'a> {
         let mut files = WrittenFiles::new(self.rt);
         let mut out = self.create(&mut files, name.as_str())?;
         cutter.write_live(&mut out)?;
-        finish(out, &mut files)
+        self.finish(name.as_str(), out, &files)
+    }
+
+    /// What was written is whole, and its file gets its name.
+    pub fn finish(
+        &self,
+        name: &str,
+        out: BufWriter<File>,
+        files: &WrittenFiles<'_>,
+    ) -> Result<(), CutFailure> {
+        files.name_buffered(&mut HostNames::new(self.rt), name, out)?;
+        Ok(())
     }
 
     /// Says that a piece is whole. What is told of the run is taken back before.
@@ -65,15 +80,6 @@ impl<'a> PieceFiles<'a> {
         told.flush();
         println!(self.rt; "piece {piece}: {lemmas} lemmas, {live} clauses live behind it")
     }
-}
-
-/// What was written is whole, and its file gets its name.
-pub fn finish(out: BufWriter<File>, files: &mut WrittenFiles<'_>) -> Result<(), CutFailure> {
-    let mut out = out;
-    out.flush()?;
-    drop(out);
-    files.finish()?;
-    Ok(())
 }
 
 /// A file that is read, as it is known by its name alone: its reader is elsewhere. Where its bytes

@@ -1,8 +1,11 @@
 //! A small fixed example.
-use command::say_cause;
+ghost use Rattle.std.specs.Prelude.{Ok};
+ghost use Rattle.follows_check_main.specs.Shown.{ShowsLine};
+
+use command::{System, say_cause};
 use follows_check::{HeaderLies, ProofFormat, exit_status, run_proof};
 use log::sink::Discard;
-use std::io;
+use std::io::Write;
 
 /// 1 or 2, and not 1 or 2.
 const FORMULA: &[u8] = b"p cnf 2 2\n1 2 0\n-1 2 0\n";
@@ -14,17 +17,20 @@ const CLAIMS: &[u8] = b"p cnf 2 1\n2 0\n";
 /// each other.
 const PROOF: &[u8] = b"0\n";
 
-pub(crate) fn check_example(rt: &HostRuntime) -> u8 {
+/// Checks the example, and returns the exit status.
+pub(crate) fn check_example<S: System, W: Write>(system: &S, out: &mut W) -> u8
+    ensures { ShowsLine (Ok result) (W.contents out.old) (W.contents out.new) }
+{
     let outcome = run_proof(
         &Discard,
-        rt.alloc(),
+        system.alloc(),
         FORMULA,
         CLAIMS,
         PROOF,
         ProofFormat::Told,
-        &mut io::writer(rt),
+        out,
         &mut HeaderLies::none(),
     );
-    say_cause(rt, &outcome);
+    say_cause(system, &outcome);
     exit_status(&outcome)
 }

@@ -4,6 +4,7 @@ use command::FaultPlace;
 use follows_check::{ProofFormat, QuestionFault, RunFault, Verdict};
 use sat_formula::DimacsFault;
 use std::io;
+use std::io::Eprint;
 
 pub(crate) fn unread_formula(fault: io::Error) -> QuestionFault {
     QuestionFault::Formula(DimacsFault::of_error(fault))
@@ -49,7 +50,7 @@ fn place_in_question<'a>(fault: &QuestionFault, claims: &'a str) -> FaultPlace<'
 }
 
 /// Says on standard error which claim fails, or why an answer shows nothing.
-pub(crate) fn say_verdict(rt: &HostRuntime, verdict: Verdict) {
+pub(crate) fn say_verdict<R: Eprint>(rt: &R, verdict: Verdict) {
     let _ = match verdict {
         Verdict::Follows | Verdict::Open => Ok(()),
         Verdict::NotFollows { claim, line } => {

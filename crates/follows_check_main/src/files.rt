@@ -1,24 +1,34 @@
 //! A formula, claims and a proof or an answer, in files.
+ghost use Rattle.std.specs.Prelude.{◌≡◌, ℕ, List, Ok, Some, IfOk, IfSome};
+ghost use Rattle.command.specs.Held.{held_in};
+ghost use Rattle.command.specs.Inputs.{bytes_named, input_bytes_left};
+ghost use Rattle.follows_check.specs.Texts.{FollowsText, NotFollowsText};
+ghost use Rattle.follows_check.specs.Verdicts.{status_of};
+ghost use Rattle.follows_check_main.specs.Shown.{ShowsLine};
+
 use crate::about::ABOUT;
 use crate::fault::{place_of, say_verdict, unread_answer, unread_claims, unread_formula};
 use command::{
-    Call, FAILED, FaultPlace, HeldBytes, Input, InputNames, NOT_RUN, WrittenFiles, hold_file,
-    open_file, open_inputs, progress_of, say_fault, warn_of_header,
+    Call, FaultPlace, HeldBytes, InputNames, InputOf, NOT_RUN, System, hold_file, open_file,
+    open_inputs, progress_of, say_fault, warn_of_header,
 };
 use follows_check::{
-    HeaderLies, ProofFormat, RunFault, Verdict, exit_status, run_answer, run_proof, write_question,
+    HeaderLies, ProofFormat, RunFault, Verdict, exit_status, run_answer, run_proof,
 };
-use std::io;
+use std::io::{Eprint, Write};
 
 /// The names of the files that a call reads.
 #[derive(Clone, Copy)]
 pub(crate) struct Names<'a> {
-    inputs: InputNames<'a>,
-    claims: &'a str,
+    pub(crate) inputs: InputNames<'a>,
+    pub(crate) claims: &'a str,
 }
 
 impl<'a> Names<'a> {
-    pub(crate) fn of(formula: &'a str, claims: &'a str, proof: &'a str) -> Names<'a> {
+    pub(crate) fn of(formula: &'a str, claims: &'a str, proof: &'a str) -> Names<'a>
+        ensures formula { result.inputs.cnf.now ≡ formula.now }
+        ensures claims { result.claims.now ≡ claims.now }
+    {
         let inputs = InputNames {
             cnf: formula,
             other: proof,
@@ -29,22 +39,30 @@ impl<'a> Names<'a> {
 
 /// Checks a proof. All files are opened before anything is read, and the formula and the claims are
 /// read whole before the proof is.
-pub(crate) fn check_proof(
-    rt: &HostRuntime,
+pub(crate) fn check_proof<S: System, W: Write>(
+    system: &S,
     names: Names<'_>,
     format: ProofFormat,
     call: &Call<'_>,
-) -> Result<u8, u8> {
-    let (cnf, proof) = open_inputs(rt, names.inputs.cnf, names.inputs.other).ok_or(NOT_RUN)?;
-    let claims = open_file(rt, names.claims).ok_or(NOT_RUN)?;
-    let (cnf, claims) = hold_question(rt, names, cnf, claims)?;
-    let progress = &progress_of(rt, &ABOUT, call);
-    let proof = proof.told(rt, progress);
-    let out = &mut io::writer(rt);
+    out: &mut W,
+) -> Result<u8, u8>
+    ensures follows { (text said : List ℕ)
+        → bytes_named (S.file_bytes system.now) (S.input_bytes system.now) names.entry.inputs.cnf.now ≡ Some text
+        → S.file_bytes system.now names.entry.claims.now ≡ Some said
+        → result ≡ Ok 20 → FollowsText text said }
+    ensures never { result ≡ Ok 10 → ⊥ }
+    ensures unwritten { result ≡ Ok 0 → ⊥ }
+    ensures line { ShowsLine result (W.contents out.old) (W.contents out.new) }
+{
+    let (cnf, proof) = open_inputs(system, names.inputs.cnf, names.inputs.other).ok_or(NOT_RUN)?;
+    let claims = open_file(system, names.claims).ok_or(NOT_RUN)?;
+    let (cnf, claims) = hold_question(system, names, cnf, claims)?;
+    let progress = &progress_of(system, &ABOUT, call);
+    let proof = proof.told(system, progress);
     let mut lies = HeaderLies::none();
     let outcome = run_proof(
         progress,
-        rt.alloc(),
+        system.alloc(),
         cnf,
         claims,
         proof,
@@ -52,86 +70,85 @@ pub(crate) fn check_proof(
         out,
         &mut lies,
     );
-    Ok(end(rt, names, format, &outcome, lies))
+    Ok(end(system, names, format, &outcome, lies))
 }
 
 /// Checks an answer. All files are opened before anything is read, and each is read whole.
-pub(crate) fn check_answer(rt: &HostRuntime, names: Names<'_>) -> Result<u8, u8> {
-    let (cnf, answer) = open_inputs(rt, names.inputs.cnf, names.inputs.other).ok_or(NOT_RUN)?;
-    let claims = open_file(rt, names.claims).ok_or(NOT_RUN)?;
-    let answer = hold_file(rt, names.inputs, answer, FaultPlace::Answer, unread_answer)?;
-    let (cnf, claims) = hold_question(rt, names, cnf, claims)?;
-    let out = &mut io::writer(rt);
-    let mut lies = HeaderLies::none();
-    let outcome = run_answer(rt.alloc(), cnf, claims, answer, out, &mut lies);
-    Ok(end(rt, names, ProofFormat::Told, &outcome, lies))
-}
-
-/// Writes the formula for a solver. The file is made once both others are open, and has its name
-/// once it is whole.
-pub(crate) fn write_formula<'a>(
-    rt: &'a HostRuntime,
+pub(crate) fn check_answer<S: System, W: Write>(
+    system: &S,
     names: Names<'_>,
-    file: &'a str,
-) -> Result<u8, u8> {
-    let (cnf, claims) = open_inputs(rt, names.inputs.cnf, names.claims).ok_or(NOT_RUN)?;
-    let mut files = WrittenFiles::new(rt);
-    let made = files.create_wanted(Some(file), &[&cnf, &claims])?;
-    let mut out = made.ok_or(NOT_RUN)?;
-    let (cnf, claims) = hold_question(rt, names, cnf, claims)?;
+    out: &mut W,
+) -> Result<u8, u8>
+    ensures fails { (text said : List ℕ)
+        → bytes_named (S.file_bytes system.now) (S.input_bytes system.now) names.entry.inputs.cnf.now ≡ Some text
+        → S.file_bytes system.now names.entry.claims.now ≡ Some said
+        → result ≡ Ok 10 → NotFollowsText text said }
+    ensures never { result ≡ Ok 20 → ⊥ }
+    ensures unwritten { result ≡ Ok 0 → ⊥ }
+    ensures line { ShowsLine result (W.contents out.old) (W.contents out.new) }
+{
+    let (cnf, answer) = open_inputs(system, names.inputs.cnf, names.inputs.other).ok_or(NOT_RUN)?;
+    let claims = open_file(system, names.claims).ok_or(NOT_RUN)?;
+    let answer = hold_file(
+        system,
+        names.inputs,
+        answer,
+        FaultPlace::Answer,
+        unread_answer,
+    )?;
+    let (cnf, claims) = hold_question(system, names, cnf, claims)?;
     let mut lies = HeaderLies::none();
-    let written = write_question(rt.alloc(), cnf, claims, &mut out, &mut lies);
-    if let Err(fault) = &written {
-        let place = place_of(fault, ProofFormat::Told, names.claims, Some(file));
-        say_fault(rt, names.inputs, fault, place);
-    }
-    warn_of_headers(rt, names, lies);
-    if written.is_err() || files.finish().is_err() {
-        return Err(FAILED);
-    }
-    Ok(0)
+    let outcome = run_answer(system.alloc(), cnf, claims, answer, out, &mut lies);
+    Ok(end(system, names, ProofFormat::Told, &outcome, lies))
 }
 
 /// Reads the formula and the claims whole.
-fn hold_question(
-    rt: &HostRuntime,
+pub(crate) fn hold_question<S: System>(
+    system: &S,
     names: Names<'_>,
-    cnf: Input<'_>,
-    claims: Input<'_>,
-) -> Result<(HeldBytes, HeldBytes), u8> {
+    cnf: InputOf<'_, S>,
+    claims: InputOf<'_, S>,
+) -> Result<(HeldBytes, HeldBytes), u8>
+    ensures formula { IfOk result (λ held. IfSome
+        (input_bytes_left S.File.remaining S.Input.remaining cnf.entry) (λ bytes. held_in held.0 ≡ bytes)) }
+    ensures claims { IfOk result (λ held. IfSome
+        (input_bytes_left S.File.remaining S.Input.remaining claims.entry) (λ bytes. held_in held.1 ≡ bytes)) }
+{
     let cnf = hold_file(
-        rt,
+        system,
         names.inputs,
         cnf,
         FaultPlace::Formula(None),
         unread_formula,
     )?;
     let place = FaultPlace::Wanted(names.claims, None);
-    let claims = hold_file(rt, names.inputs, claims, place, unread_claims)?;
+    let claims = hold_file(system, names.inputs, claims, place, unread_claims)?;
     Ok((cnf, claims))
 }
 
 /// Says on standard error how a run ended, and the mismatches of the headers. The result is the
 /// exit status.
-fn end(
-    rt: &HostRuntime,
+fn end<S: System>(
+    system: &S,
     names: Names<'_>,
     format: ProofFormat,
     outcome: &Result<Verdict, RunFault>,
     lies: HeaderLies,
-) -> u8 {
+) -> u8
+    ensures { result ≡ status_of outcome.now }
+{
     match outcome {
-        Ok(verdict) => say_verdict(rt, *verdict),
+        Ok(verdict) => say_verdict(system, *verdict),
         Err(fault) => {
             let place = place_of(fault, format, names.claims, None);
-            say_fault(rt, names.inputs, fault, place);
+            say_fault(system, names.inputs, fault, place);
         }
     }
-    warn_of_headers(rt, names, lies);
+    warn_of_headers(system, names, lies);
     exit_status(outcome)
 }
 
-fn warn_of_headers(rt: &HostRuntime, names: Names<'_>, lies: HeaderLies) {
+pub(crate) fn warn_of_headers<R: Eprint>(rt: &R, names: Names<'_>, lies: HeaderLies) {
     warn_of_header(rt, names.inputs.cnf, &lies.formula);
     warn_of_header(rt, names.claims, &lies.claims);
 }

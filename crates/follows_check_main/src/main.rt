@@ -9,51 +9,101 @@
 //! `RUST_LOG` asks for, as `RUST_LOG=info`, is logged to standard error; else nothing is.
 #![tactic(auto)]
 
+ghost use Rattle.std.specs.Prelude.{◌≡◌, ℕ, List, [], ◌∷◌, None, Ok, Some, IfErr, codes, false, is_some, true};
+ghost use Rattle.std.specs.Io.KnownBytes.{Appends};
+ghost use Rattle.command.specs.Calls.{choices_of, is_given, operands_of, value_given};
+ghost use Rattle.command.specs.Inputs.{bytes_named};
+ghost use Rattle.follows_check.specs.Texts.{FollowsText, NotFollowsText};
+ghost use Rattle.follows_check_main.specs.Shown.{NamesQuestion, ShowsLine};
+
 mod about;
 mod example;
 mod fault;
 mod files;
+mod question;
 
 use crate::about::ABOUT;
 use crate::example::check_example;
-use crate::files::{Names, check_answer, check_proof, write_formula};
-use command::{Call, misused, run_program, unnamed};
+use crate::files::{Names, check_answer, check_proof};
+use crate::question::write_formula;
+use command::{Call, HostNames, OutputSystem, misused, run_program, unnamed};
 use follows_check::ProofFormat;
+use std::io;
+use std::io::Write;
 use std::process::ExitCode;
 
 fn main(rt: HostRuntime) -> ExitCode {
-    run_program(&rt, &ABOUT, |call| run(&rt, call))
+    run_program(&rt, &ABOUT, |call| {
+        run(&rt, call, &mut HostNames::new(&rt), &mut io::writer(&rt))
+    })
 }
 
-fn run(rt: &HostRuntime, call: &Call<'_>) -> Result<u8, u8> {
+/// Runs a call in a system, with `out` as its standard output.
+fn run<S: OutputSystem, W: Write>(
+    system: &S,
+    call: &Call<'_>,
+    given: &mut S::Names,
+    out: &mut W,
+) -> Result<u8, u8>
+    ensures follows { (cnf claims proof text said : List ℕ)
+        → operands_of call.now ≡ cnf ∷ claims ∷ proof ∷ []
+        → is_given (choices_of call.now) (codes "--example") ≡ false
+        → bytes_named (S.file_bytes system.now) (S.input_bytes system.now) cnf ≡ Some text
+        → S.file_bytes system.now claims ≡ Some said
+        → result ≡ Ok 20 → FollowsText text said }
+    ensures fails { (cnf claims answer text said : List ℕ)
+        → operands_of call.now ≡ cnf ∷ claims ∷ answer ∷ []
+        → is_given (choices_of call.now) (codes "--example") ≡ false
+        → bytes_named (S.file_bytes system.now) (S.input_bytes system.now) cnf ≡ Some text
+        → S.file_bytes system.now claims ≡ Some said
+        → result ≡ Ok 10 → NotFollowsText text said }
+    ensures line { ShowsLine result (W.contents out.old) (W.contents out.new) }
+    ensures question { (cnf claims file text said : List ℕ)
+        → operands_of call.now ≡ cnf ∷ claims ∷ []
+        → is_given (choices_of call.now) (codes "--example") ≡ false
+        → value_given (choices_of call.now) (codes "--formula") ≡ Some file
+        → bytes_named (S.file_bytes system.now) (S.input_bytes system.now) cnf ≡ Some text
+        → bytes_named (S.file_bytes system.now) (S.input_bytes system.now) claims ≡ Some said
+        → S.unwritten system.now ≡ Some [] → result ≡ Ok 0
+        → NamesQuestion (S.place system.now file) (Some text) (Some said)
+        (S.renamed given.old) (S.renamed given.new) }
+    ensures unnamed { IfErr result (λ status. S.renamed given.new ≡ S.renamed given.old) }
+{
     if call.has("--example") {
-        return Ok(check_example(rt));
+        return Ok(check_example(system, out));
     }
     let format = match (call.has("--drat"), call.has("--frat"), call.has("--lpr")) {
         (false, false, false) => ProofFormat::Told,
         (true, false, false) => ProofFormat::Drat,
         (false, true, false) => ProofFormat::Frat,
         (false, false, true) => ProofFormat::Lpr,
-        _ => return Err(misused(rt, &ABOUT, "--drat, --frat and --lpr exclude each other")),
+        _ => {
+            let why = "--drat, --frat and --lpr exclude each other";
+            return Err(misused(system, &ABOUT, why));
+        }
     };
     if call.has("--answer") && format != ProofFormat::Told {
-        return Err(misused(rt, &ABOUT, "--answer excludes --drat, --frat and --lpr"));
+        let why = "--answer excludes --drat, --frat and --lpr";
+        return Err(misused(system, &ABOUT, why));
     }
     match (call.operands.as_slice(), call.value("--formula")) {
         ([formula, claims], Some(file)) => {
             if call.has("--answer") || format != ProofFormat::Told {
-                return Err(misused(rt, &ABOUT, "with --formula nothing is checked"));
+                return Err(misused(system, &ABOUT, "with --formula nothing is checked"));
             }
-            write_formula(rt, Names::of(formula.as_str(), claims.as_str(), ""), file)
+            let names = Names::of(formula.as_str(), claims.as_str(), "");
+            write_formula(system, names, file, given)
         }
-        ([_, _, _], Some(_)) => Err(misused(rt, &ABOUT, "with --formula nothing is checked")),
+        ([_, _, _], Some(_)) => {
+            Err(misused(system, &ABOUT, "with --formula nothing is checked"))
+        }
         ([formula, claims, proof], None) => {
             let names = Names::of(formula.as_str(), claims.as_str(), proof.as_str());
             if call.has("--answer") {
-                return check_answer(rt, names);
+                return check_answer(system, names, out);
             }
-            check_proof(rt, names, format, call)
+            check_proof(system, names, format, call, out)
         }
-        (operands, _) => Err(unnamed(rt, &ABOUT, operands.len())),
+        (operands, _) => Err(unnamed(system, &ABOUT, operands.len())),
     }
 }

@@ -1,11 +1,19 @@
 //! A proof, in a file, and the file of its bytes.
+ghost use Rattle.std.specs.Prelude.{◌≡◌, ◌⊎◌, ℕ, List, [], Ok, Some, IfErr, IsErr};
+ghost use Rattle.std.specs.Io.Buffered.{writer_contents};
+ghost use Rattle.command.specs.Inputs.{bytes_named};
+ghost use Rattle.command.specs.Outputs.{Gives};
+ghost use Rattle.lrat_to_proof.specs.Conversions.{shows_unsat};
+ghost use Rattle.lrat_to_proof.specs.Widths.{bits_of};
+ghost use Rattle.lrat_to_proof.specs.declared.conversion.Conversion.TheVariants.{Open, Refuted};
+ghost use Rattle.lrat_to_proof_main.specs.Named.{HasNamed};
+ghost use Rattle.verdicts.specs.Statuses.{status_of};
+
 use command::{
-    FAILED, FaultPlace, InputNames, NOT_RUN, Source, WrittenFiles, open_inputs, say_fault,
-    warn_of_header,
+    FAILED, FaultPlace, InputNames, NOT_RUN, OutputSystem, ReadFile, WrittenFiles, open_inputs,
+    say_fault, warn_of_header,
 };
 use lrat_to_proof::{Conversion, ConvertFault, HashWidth, Ids, convert, exit_status};
-use sat_formula::LyingHeader;
-use std::fs::File;
 use std::io::BufWriter;
 
 /// How ids stand in binary lines, where that is given, and how wide hashes are.
@@ -16,41 +24,75 @@ pub(crate) struct Form {
 }
 
 /// Writes a proof as bytes. The third file is made once both others are open, and before anything
-/// is read. It is neither of them, and has its name once it is whole.
-pub(crate) fn convert_files(
-    rt: &HostRuntime,
+/// is read. It is neither of them, and has its name once it is whole. Returns the exit status.
+pub(crate) fn convert_files<S: OutputSystem>(
+    system: &S,
     names: InputNames<'_>,
     proof_name: &str,
     form: Form,
-) -> Result<u8, u8> {
-    let (cnf, lrat) = open_inputs(rt, names.cnf, names.other).ok_or(NOT_RUN)?;
-    let mut files = WrittenFiles::new(rt);
-    let proof = files.create(proof_name, &[&cnf, &lrat]).ok_or(NOT_RUN)?;
+    given: &mut S::Names,
+) -> Result<u8, u8>
+    ensures refuted { (text lines : List ℕ)
+        → bytes_named (S.file_bytes system.now) (S.input_bytes system.now) names.entry.cnf.now ≡ Some text
+        → bytes_named (S.file_bytes system.now) (S.input_bytes system.now) names.entry.other.now ≡ Some lines
+        → S.unwritten system.now ≡ Some [] → result ≡ Ok 0
+        → HasNamed form.ids (bits_of form.width) (S.place system.now proof_name.now)
+        (Some text) (Some lines) Refuted (S.renamed given.old) (S.renamed given.new) }
+    ensures opened { (text lines : List ℕ)
+        → bytes_named (S.file_bytes system.now) (S.input_bytes system.now) names.entry.cnf.now ≡ Some text
+        → bytes_named (S.file_bytes system.now) (S.input_bytes system.now) names.entry.other.now ≡ Some lines
+        → S.unwritten system.now ≡ Some [] → result ≡ Ok 3
+        → HasNamed form.ids (bits_of form.width) (S.place system.now proof_name.now)
+        (Some text) (Some lines) Open (S.renamed given.old) (S.renamed given.new) }
+    ensures rejected { result ≡ Ok 1 → S.renamed given.new ≡ S.renamed given.old }
+    ensures unnamed { IfErr result (λ status. S.renamed given.new ≡ S.renamed given.old) }
+{
+    let (cnf, lrat) = open_inputs(system, names.cnf, names.other).ok_or(NOT_RUN)?;
+    let mut files = WrittenFiles::new(system);
+    let inputs = [ReadFile::of(system, &cnf), ReadFile::of(system, &lrat)];
+    let made = files.create_wanted(Some(proof_name), &inputs)?;
+    let mut out = made.ok_or(NOT_RUN)?;
     let mut lie = None;
-    let outcome = write_proof(rt, cnf.file, lrat.file, proof, form, &mut lie);
-    let mut status = exit_status(&outcome);
+    let outcome = convert(
+        system.alloc(),
+        cnf.file,
+        lrat.file,
+        form.ids,
+        form.width,
+        &mut out,
+        &mut lie,
+    );
     if let Err(fault) = &outcome {
-        say_fault(rt, names, fault, place_of(fault));
-    } else if let Err(fault) = files.finish() {
-        let _ = eprintln!(rt; "error writing: {fault}");
-        status = FAILED;
+        say_fault(system, names, fault, place_of(fault));
     }
-    warn_of_header(rt, names.cnf, &lie);
-    Ok(status)
+    warn_of_header(system, names.cnf, &lie);
+    Ok(end(system, &files, proof_name, &outcome, out, given))
 }
 
-/// Converts the proof, through a buffer.
-fn write_proof(
-    rt: &HostRuntime,
-    cnf: Source,
-    lrat: Source,
-    proof: File,
-    form: Form,
-    lie: &mut Option<LyingHeader>,
-) -> Result<Conversion, ConvertFault> {
-    match BufWriter::new(rt.alloc(), proof) {
-        Ok(mut out) => { convert(rt.alloc(), cnf, lrat, form.ids, form.width, &mut out, lie) }
-        Err(_) => Err(ConvertFault::OutOfMemory),
+/// Gives the proof's bytes their name, if they are whole. Returns the exit status.
+fn end<S: OutputSystem>(
+    system: &S,
+    files: &WrittenFiles<'_, S>,
+    proof_name: &str,
+    outcome: &Result<Conversion, ConvertFault>,
+    out: BufWriter<S::Output>,
+    given: &mut S::Names,
+) -> u8
+    ensures named { (result ≡ FAILED → S.renamed given.new ≡ S.renamed given.old) }
+    ensures status { (result ≡ FAILED) ⊎ ((result ≡ status_of shows_unsat outcome.now)
+        × Gives (S.renamed given.old) (S.renamed given.new)
+        (S.place files.now.system.now proof_name.now) (writer_contents S.Output.contents out)) }
+    ensures failed { IsErr outcome.now → result ≡ FAILED }
+{
+    if outcome.is_err() {
+        return FAILED;
+    }
+    match files.name_buffered(given, proof_name, out) {
+        Ok(()) => exit_status(outcome),
+        Err(fault) => {
+            let _ = eprintln!(system; "error writing: {fault}");
+            FAILED
+        }
     }
 }
 

@@ -4,36 +4,64 @@
 //! The name `-` of an input is standard input.
 #![tactic(auto)]
 
+ghost use Rattle.std.specs.Prelude.{◌≡◌, ℕ, List, [], ◌∷◌, None, Ok, Some, IfErr, IfSome, codes};
+ghost use Rattle.command.specs.Calls.{choices_of, operands_of, value_given};
+ghost use Rattle.command.specs.Inputs.{bytes_named};
+ghost use Rattle.lrat_to_proof.specs.Widths.{bits_of};
+ghost use Rattle.lrat_to_proof.specs.declared.conversion.Conversion.TheVariants.{Open, Refuted};
+ghost use Rattle.lrat_to_proof_main.specs.Named.{NamesBytes};
+
 mod about;
 mod files;
 
 use crate::about::ABOUT;
 use crate::files::{Form, convert_files};
-use command::{Call, InputNames, ids_of, misused, run_program, unnamed};
+use command::{Call, HostNames, InputNames, OutputSystem, ids_of, misused, run_program, unnamed};
 use lrat_to_proof::{HashWidth, Ids};
 use std::process::ExitCode;
 
 fn main(rt: HostRuntime) -> ExitCode {
-    run_program(&rt, &ABOUT, |call| run(&rt, call))
+    run_program(&rt, &ABOUT, |call| run(&rt, call, &mut HostNames::new(&rt)))
 }
 
-fn run(rt: &HostRuntime, call: &Call<'_>) -> Result<u8, u8> {
+/// Runs a call in a system.
+fn run<S: OutputSystem>(system: &S, call: &Call<'_>, given: &mut S::Names) -> Result<u8, u8>
+    ensures refuted { (cnf lrat proof text lines : List ℕ)
+        → operands_of call.now ≡ cnf ∷ lrat ∷ proof ∷ []
+        → bytes_named (S.file_bytes system.now) (S.input_bytes system.now) cnf ≡ Some text
+        → bytes_named (S.file_bytes system.now) (S.input_bytes system.now) lrat ≡ Some lines
+        → S.unwritten system.now ≡ Some [] → result ≡ Ok 0
+        → NamesBytes (choices_of call.now) (S.place system.now proof) (Some text) (Some lines) Refuted
+        (S.renamed given.old) (S.renamed given.new) }
+    ensures opened { (cnf lrat proof text lines : List ℕ)
+        → operands_of call.now ≡ cnf ∷ lrat ∷ proof ∷ []
+        → bytes_named (S.file_bytes system.now) (S.input_bytes system.now) cnf ≡ Some text
+        → bytes_named (S.file_bytes system.now) (S.input_bytes system.now) lrat ≡ Some lines
+        → S.unwritten system.now ≡ Some [] → result ≡ Ok 3
+        → NamesBytes (choices_of call.now) (S.place system.now proof) (Some text) (Some lines) Open
+        (S.renamed given.old) (S.renamed given.new) }
+    ensures rejected { result ≡ Ok 1 → S.renamed given.new ≡ S.renamed given.old }
+    ensures unnamed { IfErr result (λ status. S.renamed given.new ≡ S.renamed given.old) }
+{
     let Some(width) = width_of(call) else {
-        return Err(misused(rt, &ABOUT, "--width takes a number from 1 to 64"));
+        return Err(misused(system, &ABOUT, "--width takes a number from 1 to 64"));
     };
-    let ids = ids_of(rt, &ABOUT, call, Ids::Plain, Ids::Doubled)?;
+    let ids = ids_of(system, &ABOUT, call, Ids::Plain, Ids::Doubled)?;
     match call.operands.as_slice() {
         [cnf, lrat, proof] => {
             let (cnf, other) = (cnf.as_str(), lrat.as_str());
-            let form = Form { ids, width };
-            convert_files(rt, InputNames { cnf, other }, proof.as_str(), form)
+            let (names, form) = (InputNames { cnf, other }, Form { ids, width });
+            convert_files(system, names, proof.as_str(), form, given)
         }
-        operands => Err(unnamed(rt, &ABOUT, operands.len())),
+        operands => Err(unnamed(system, &ABOUT, operands.len())),
     }
 }
 
-/// The width that `--width N` sets. None: it is none that a hash can have.
-fn width_of(call: &Call<'_>) -> Option<HashWidth> {
+/// Returns the width that `--width N` sets, or `None` if no hash can have it.
+fn width_of(call: &Call<'_>) -> Option<HashWidth>
+    ensures { value_given (choices_of call.now) (codes "--width") ≡ None
+        → IfSome result (λ width. bits_of width ≡ 64) }
+{
     match call.value("--width") {
         None => Some(HashWidth::full()),
         Some(bits) => HashWidth::from_bits(bits.parse::<u32>().ok()?),

@@ -1,8 +1,13 @@
 //! A small fixed example.
-use command::{EXAMPLE_FORMULA, say_cause};
+ghost use Rattle.std.specs.Prelude.{◌≡◌};
+ghost use Rattle.std.specs.Io.KnownBytes.{Appends};
+ghost use Rattle.follows_check.specs.Minimal.{minimal_line};
+ghost use Rattle.follows_check.specs.declared.minimal.MinimalVerdict.TheVariants.{Minimal};
+
+use command::{EXAMPLE_FORMULA, System, say_cause};
 use follows_check::{ProofFormat, run_minimal};
 use log::sink::Discard;
-use std::io;
+use std::io::Write;
 use verdicts::exit_status;
 
 /// 1 follows from the first two clauses of the example's formula, and with it the others are
@@ -12,17 +17,20 @@ const PROOF: &[u8] = b"1 0\n0\n";
 /// Of the four clauses, one against each pair of values of two variables, each pair fails one.
 const MODELS: &[u8] = b"-1 -2 0\n-1 2 0\n1 -2 0\n1 2 0\n";
 
-pub(crate) fn check_example(rt: &HostRuntime) -> u8 {
+/// Checks the example, and returns the exit status.
+pub(crate) fn check_example<S: System, W: Write>(system: &S, out: &mut W) -> u8
+    ensures { result ≡ 0 → Appends (W.contents out.old) (W.contents out.new) (minimal_line Minimal) }
+{
     let outcome = run_minimal(
         &Discard,
-        rt.alloc(),
+        system.alloc(),
         EXAMPLE_FORMULA,
         PROOF,
         MODELS,
         ProofFormat::Told,
-        &mut io::writer(rt),
+        out,
         &mut None,
     );
-    say_cause(rt, &outcome);
+    say_cause(system, &outcome);
     exit_status(&outcome)
 }

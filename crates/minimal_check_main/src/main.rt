@@ -8,6 +8,13 @@
 //! is.
 #![tactic(auto)]
 
+ghost use Rattle.std.specs.Prelude.{◌≡◌, ℕ, List, [], ◌∷◌, Ok, Some, codes, false};
+ghost use Rattle.std.specs.Io.KnownBytes.{Appends};
+ghost use Rattle.command.specs.Calls.{choices_of, is_given, operands_of};
+ghost use Rattle.command.specs.Inputs.{bytes_named};
+ghost use Rattle.follows_check.specs.Minimal.{IsMinimalText, minimal_line};
+ghost use Rattle.follows_check.specs.declared.minimal.MinimalVerdict.TheVariants.{Minimal};
+
 mod about;
 mod example;
 mod files;
@@ -15,30 +22,45 @@ mod files;
 use crate::about::ABOUT;
 use crate::example::check_example;
 use crate::files::check_files;
-use command::{Call, InputNames, misused, run_program, unnamed};
+use command::{Call, InputNames, System, misused, run_program, unnamed};
 use follows_check::ProofFormat;
+use std::io;
+use std::io::Write;
 use std::process::ExitCode;
 
 fn main(rt: HostRuntime) -> ExitCode {
-    run_program(&rt, &ABOUT, |call| run(&rt, call))
+    run_program(&rt, &ABOUT, |call| run(&rt, call, &mut io::writer(&rt)))
 }
 
-fn run(rt: &HostRuntime, call: &Call<'_>) -> Result<u8, u8> {
+/// Runs a call in a system, with `out` as its standard output.
+fn run<S: System, W: Write>(system: &S, call: &Call<'_>, out: &mut W) -> Result<u8, u8>
+    ensures minimal { (core proof models text : List ℕ)
+        → operands_of call.now ≡ core ∷ proof ∷ models ∷ []
+        → is_given (choices_of call.now) (codes "--example") ≡ false
+        → bytes_named (S.file_bytes system.now) (S.input_bytes system.now) core ≡ Some text
+        → result ≡ Ok 0 → IsMinimalText text }
+    ensures line { result ≡ Ok 0
+        → Appends (W.contents out.old) (W.contents out.new) (minimal_line Minimal) }
+{
     if call.has("--example") {
-        return Ok(check_example(rt));
+        return Ok(check_example(system, out));
     }
     let format = match (call.has("--drat"), call.has("--frat"), call.has("--lpr")) {
         (false, false, false) => ProofFormat::Told,
         (true, false, false) => ProofFormat::Drat,
         (false, true, false) => ProofFormat::Frat,
         (false, false, true) => ProofFormat::Lpr,
-        _ => return Err(misused(rt, &ABOUT, "--drat, --frat and --lpr exclude each other")),
+        _ => {
+            let why = "--drat, --frat and --lpr exclude each other";
+            return Err(misused(system, &ABOUT, why));
+        }
     };
     match call.operands.as_slice() {
         [core, proof, models] => {
             let (cnf, other) = (core.as_str(), proof.as_str());
-            check_files(rt, InputNames { cnf, other }, models.as_str(), format, call)
+            let names = InputNames { cnf, other };
+            check_files(system, names, models.as_str(), format, call, out)
         }
-        operands => Err(unnamed(rt, &ABOUT, operands.len())),
+        operands => Err(unnamed(system, &ABOUT, operands.len())),
     }
 }

@@ -1,5 +1,5 @@
 -- What a run's status says of it.
-use Rattle.std.proofs.Common.{◌≡◌, refl, Ok, Err}
+use Rattle.std.proofs.Common.{◌≡◌, ℕ, refl, Ok, Err}
 use Rattle.std.specs.declared.result.Result.{Result}
 use Rattle.varisat_check.specs.Verdicts.{shows_unsat}
 use Rattle.varisat_check.specs.declared.verdict.Verdict.{Verdict}
@@ -12,3 +12,7 @@ status_zero (Ok Unsatisfiable) h = refl
 status_zero (Ok (UnsatisfiableWithAdded n)) h = absurd (cc)
 status_zero (Ok NotShown) h = absurd (cc)
 status_zero (Err fault) h = absurd (cc)
+
+-- the status is that of the run
+pub zero_from : (n m : ℕ) → n ≡ m → ◌≡◌ {A = Result ℕ ℕ} (Ok n) (Ok 0) → m ≡ 0
+zero_from n m e well = cc

@@ -6,6 +6,14 @@
 //! What `RUST_LOG` asks for, as `RUST_LOG=info`, is logged to standard error; else nothing is.
 #![tactic(auto)]
 
+ghost use Rattle.std.specs.Prelude.{◌≡◌, ℕ, List, [], ◌∷◌, IfErr, Ok, Some, string_bytes};
+ghost use Rattle.std.specs.Io.KnownBytes.{Appends};
+ghost use Rattle.command.specs.Calls.{operands_of};
+ghost use Rattle.command.specs.Inputs.{bytes_named};
+ghost use Rattle.sat_formula.specs.Refuted.{IsRefuted};
+ghost use Rattle.varisat_check.specs.Verdicts.{shown_line};
+ghost use Rattle.varisat_check.specs.declared.verdict.Verdict.TheVariants.{Unsatisfiable};
+
 mod about;
 mod example;
 mod files;
@@ -15,24 +23,53 @@ use crate::about::ABOUT;
 use crate::example::check_example;
 use crate::files::check_files;
 use crate::hints::write_hints;
-use command::{Call, InputNames, run_program, unnamed};
+use command::{Call, HostNames, InputNames, OutputSystem, run_program, unnamed};
 use std::io;
+use std::io::Write;
 use std::process::ExitCode;
 
 fn main(rt: HostRuntime) -> ExitCode {
-    run_program(&rt, &ABOUT, |call| run(&rt, call))
+    run_program(&rt, &ABOUT, |call| {
+        run(&rt, call, &mut HostNames::new(&rt), &mut io::writer(&rt))
+    })
 }
 
-fn run(rt: &HostRuntime, call: &Call<'_>) -> Result<u8, u8> {
+/// Runs a call in a system, with `out` as its standard output.
+fn run<S: OutputSystem, W: Write>(
+    system: &S,
+    call: &Call<'_>,
+    given: &mut S::Names,
+    out: &mut W,
+) -> Result<u8, u8>
+    ensures refutes { (cnf proof text : List ℕ) (others : List (List ℕ))
+        → operands_of call.now ≡ cnf ∷ proof ∷ others
+        → bytes_named (S.file_bytes system.now) (S.input_bytes system.now) cnf ≡ Some text
+        → result ≡ Ok 0 → IsRefuted text }
+    ensures line { result ≡ Ok 0
+        → Appends (W.contents out.old) (W.contents out.new) (shown_line Unsatisfiable) }
+    ensures unnamed { IfErr result (λ status. S.renamed given.new ≡ S.renamed given.old) }
+{
     match call.operands.as_slice() {
-        [] => Ok(check_example(rt, call)),
-        [cnf, proof] => check_files(rt, names_of(cnf, proof), call, &mut io::writer(rt)),
-        [cnf, proof, lrat] => write_hints(rt, names_of(cnf, proof), lrat.as_str(), call),
-        operands => Err(unnamed(rt, &ABOUT, operands.len())),
+        [] => Ok(check_example(system, call, out)),
+        [cnf, proof] => check_files(system, names_of(cnf, proof), call, out),
+        [cnf, proof, lrat] => {
+            write_hints(
+                system,
+                names_of(cnf, proof),
+                lrat.as_str(),
+                call,
+                given,
+                out,
+            )
+        }
+        operands => Err(unnamed(system, &ABOUT, operands.len())),
     }
 }
 
-fn names_of<'a>(cnf: &'a String, proof: &'a String) -> InputNames<'a> {
+fn names_of<'a>(cnf: &'a String, proof: &'a String) -> InputNames<'a>
+    ensures cnf { result.cnf.now ≡ string_bytes cnf.now }
+    ensures other { result.other.now ≡ string_bytes proof.now }
+{
     InputNames {
         cnf: cnf.as_str(),
         other: proof.as_str(),

@@ -6,5 +6,5 @@ use Rattle.command.proofs.written.WrittenFiles.has.Given as goal
 
 -- among the names to come it is the same
 abbrev pub invariant-loop-taken : goal.invariant-loop-taken
-invariant-loop-taken l =
+invariant-loop-taken g l =
     list_any (λ taken. bytes_eq taken.now l.name) (drop l.taken-index l.self.names.items) ≡ is_among l.name l.self

@@ -1,0 +1,34 @@
+use Rattle.std.proofs.Common.{◌≡◌, ℕ, List, Some}
+use Rattle.command.specs.Inputs.{bytes_named}
+use Rattle.drat_check_main.proofs.run.Goals as goal
+
+-- the names are those of the call
+pub returns-in-Some-clause-piece : goal.returns-in-Some-clause-piece
+returns-in-Some-clause-piece g c cnf proof holds text wanted operands alone said known other well =
+    let names = c.in_ok-names.ensures.ok in
+    let first : cnf ≡ c.in_ok-names.names.cnf.now = cc in
+    let value = c.in-Some.ensures in
+    let third : holds ≡ c.in-Some.holds.now = cc in
+    let formula : bytes_named (g.S.System.file_bytes c.args.system.now)
+    (g.S.System.input_bytes c.args.system.now) c.in_ok-names.names.cnf.now ≡ Some text = cc in
+    let target : g.S.System.file_bytes c.args.system.now c.in-Some.holds.now ≡ Some wanted = cc in
+    c.check_piece.ensures.shows text wanted formula target well
+
+pub returns-in-Some-clause-piece_outputs : goal.returns-in-Some-clause-piece_outputs
+returns-in-Some-clause-piece_outputs g c cnf proof holds text wanted operands alone said known other fresh well =
+    let names = c.in_ok-names.ensures.ok in
+    let first : cnf ≡ c.in_ok-names.names.cnf.now = cc in
+    let value = c.in-Some.ensures in
+    let third : holds ≡ c.in-Some.holds.now = cc in
+    let formula : bytes_named (g.S.System.file_bytes c.args.system.now)
+    (g.S.System.input_bytes c.args.system.now) c.in_ok-names.names.cnf.now ≡ Some text = cc in
+    let target : g.S.System.file_bytes c.args.system.now c.in-Some.holds.now ≡ Some wanted = cc in
+    c.check_piece.ensures.outputs text wanted formula target fresh well
+
+pub returns-in-None-clause-outputs : goal.returns-in-None-clause-outputs
+returns-in-None-clause-outputs g c cnf proof text operands alone none known fresh well =
+    let names = c.in_ok-names.ensures.ok in
+    let first : cnf ≡ c.in_ok-names.names.cnf.now = cc in
+    let formula : bytes_named (g.S.System.file_bytes c.args.system.now)
+    (g.S.System.input_bytes c.args.system.now) c.in_ok-names.names.cnf.now ≡ Some text = cc in
+    c.check_files.ensures.outputs text formula fresh well

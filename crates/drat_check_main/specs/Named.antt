@@ -1,0 +1,61 @@
+-- The files that a run names, by the options of its call.
+--     named options flag      the name that an option gives an output
+--     form_asked options      how the lines of a proof are written
+--     GivesAll      three outputs got their names
+--     NamesProof      the outputs of a run that refutes a formula have their names
+--     NamesPiece      those of a run over a piece that derives its target clauses
+use Rattle.std.specs.Prelude.{◌≡◌, ℕ, if◌then◌else◌, List, Option, None, codes, true}
+use Rattle.command.specs.Calls.{Choice, is_given, value_given}
+use Rattle.command.specs.Outputs.{begun, place_of, Gives}
+use Rattle.drat_check.specs.Outputs.{WroteCore, WroteProof}
+use Rattle.drat_check.specs.PieceCores.{CoreShown}
+use Rattle.drat_check.specs.Pieces.{WritesShown}
+use Rattle.piece_runs.specs.Texts.{OfFormulas}
+use Rattle.sat_output.specs.declared.form.LineForm.{LineForm}
+use Rattle.sat_output.specs.declared.form.LineForm.TheVariants.{Binary, Text}
+use Rattle.verdicts.specs.Pieces.{shows_wanted}
+use Rattle.verdicts.specs.declared.piece.PieceVerdict.{PieceVerdict}
+
+abbrev pub lrat_name : List Choice → Option (List ℕ)
+lrat_name options = value_given options (codes "--lrat")
+
+abbrev pub trim_name : List Choice → Option (List ℕ)
+trim_name options = value_given options (codes "--trim")
+
+abbrev pub core_name : List Choice → Option (List ℕ)
+core_name options = value_given options (codes "--core")
+
+-- text, unless the call asks for the binary form
+abbrev pub form_asked : List Choice → LineForm
+form_asked options = if is_given options (codes "--binary") then Binary else Text
+
+module _ (place : List ℕ → Option (List ℕ)) (options : List Choice) where
+  -- first the lines, then their steps, then the clauses that they use
+  pub record GivesAll (lrat trim core : Option (List ℕ)) (old new : Option (List (List ℕ × List ℕ))) : Type 0 where
+    pub with_lrat : Option (List (List ℕ × List ℕ))
+    pub with_trim : Option (List (List ℕ × List ℕ))
+    pub first : Gives old with_lrat (place_of place (lrat_name options)) lrat
+    pub second : Gives with_lrat with_trim (place_of place (trim_name options)) trim
+    pub third : Gives with_trim new (place_of place (core_name options)) core
+
+  -- lines that refute the formula were written, their steps, and a part of the formula, each where it is wanted, and these files have their names now
+  pub record NamesProof (old new : Option (List (List ℕ × List ℕ))) (formula : List (List ℕ)) : Type 0 where
+    pub lrat : Option (List ℕ)
+    pub trim : Option (List ℕ)
+    pub core : Option (List ℕ)
+    pub proof : WroteProof (form_asked options) formula
+        (begun (lrat_name options)) lrat (begun (trim_name options)) trim
+    pub used : WroteCore formula (begun (core_name options)) core
+    pub named : GivesAll lrat trim core old new
+
+  -- what the verdict relies on was written: the lines, where no part of the formula is wanted, or that part; and these files have their names now
+  pub record NamesPiece (cnf holds : Option (List ℕ)) (old new : Option (List (List ℕ × List ℕ))) : Type 0 where
+    pub lrat : Option (List ℕ)
+    pub core : Option (List ℕ)
+    pub verdict : PieceVerdict
+    pub shown : shows_wanted verdict ≡ true
+    pub lines : core_name options ≡ None → OfFormulas cnf holds (λ formula wanted.
+        WritesShown (form_asked options) formula wanted (begun (lrat_name options)) lrat verdict)
+    pub used : OfFormulas cnf holds (λ formula wanted.
+        CoreShown formula wanted (begun (core_name options)) core verdict)
+    pub named : GivesAll lrat None core old new

@@ -1,0 +1,7 @@
+use Rattle.stimulus_text.specs.Texts.{outcome_at}
+use Rattle.stimulus_text.specs.Places.{after}
+use Rattle.stimulus_text.proofs.laws.stimulus_rows.Goals as goal
+
+pub returns : goal.returns
+unfolding outcome_at after
+returns c = assumption
