@@ -24,7 +24,7 @@ shift 2
 work=$(mktemp -d)
 trap 'rm -rf "$work"' EXIT
 mkdir "$work/bin"
-for program in drat_check drat_cut model_check; do
+for program in drat_check drat_cut join_check model_check; do
   ln -s "$top/crates/${program}_main/out/${program}_main" "$work/bin/$program"
 done
 ln -s "$top/tools/checked" "$top/tools/pieces" "$work/bin"
@@ -88,7 +88,7 @@ if [[ $meanwhile ]]; then
   printf '#!/bin/sh\ns=0; "%s" "$@" || s=$?; date +%%s.%%N > "%s/ended"; exit $s\n' "$solver" "$work" > "$work/bin/cadical"
   chmod +x "$work/bin/cadical"
   began=$(date +%s.%N)
-  if [[ $(checked --while cadical "$cnf" 2> "$work/errors") != 's VERIFIED UNSAT' ]]; then
+  if [[ $(checked --while cadical "$cnf" 2> "$work/errors") != 's VERIFIED UNSAT BY '*' RECEIPTS' ]]; then
     printf ' WRONG: while it is written: %s\n' "$(cat "$work/errors")"
     exit 1
   fi

@@ -39,7 +39,7 @@ if (($# == 0)); then
 fi
 
 mkdir "$work/bin" "$work/room"
-for program in drat_check drat_cut lrat_check model_check follows_check circuit_check; do
+for program in drat_check drat_cut join_check lrat_check model_check follows_check circuit_check; do
   built=$top/crates/${program}_main/out/${program}_main
   if [[ ! -x $built ]]; then
     echo "not built: $built"

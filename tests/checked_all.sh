@@ -9,7 +9,7 @@ top=$(cd "$(dirname "$0")/.." && pwd)
 work=$(mktemp -d)
 trap 'rm -rf "$work"' EXIT
 mkdir "$work/bin" "$work/room"
-for program in drat_check drat_cut lrat_check model_check; do
+for program in drat_check drat_cut join_check lrat_check model_check; do
   built=$top/crates/${program}_main/out/${program}_main
   if [[ ! -x $built ]]; then
     echo "not built: $built"

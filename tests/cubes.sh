@@ -1,7 +1,9 @@
 #!/usr/bin/env bash
-# Formulas split into cubes, by `tools/cubes`: two cubes with proofs by hand, and where cadical is there, the commands of
-# docs/SCALE.md over a pigeonhole in 36 cubes, by xargs, parallel, make and Snakemake. A proof that is missing, damaged or of
-# another cube has to be found, a run that was interrupted goes on, and what did not change is not done again.
+# Formulas split into cubes, by `tools/cubes`: two cubes with proofs by hand, random ones against all assignments, and where cadical is
+# there, the commands of docs/SCALE.md over a pigeonhole in 36 cubes, by xargs, parallel, make and Snakemake. A proof that is missing,
+# damaged or of another cube has to be found, a run that was interrupted goes on, and what did not change is not done again.
+#
+#   tests/cubes.sh [COUNT [SEED]]    this many random formulas
 #
 # The programs must be built: `rt ci` does it, or `rt run` in their folders.
 set -euo pipefail
@@ -10,7 +12,7 @@ top=$(cd "$(dirname "$0")/.." && pwd)
 work=$(mktemp -d)
 trap 'rm -rf "$work"' EXIT
 mkdir "$work/bin"
-for program in drat_check lrat_check model_check; do
+for program in drat_check join_check lrat_check model_check; do
   built=$top/crates/${program}_main/out/${program}_main
   if [[ ! -x $built ]]; then
     echo "not built: $built"
@@ -53,7 +55,7 @@ printf 'c four\np cnf 2 4\n1 2 0 1\n-2 0\nc of two\n-1 2 0\n -1 -2 00\n%%\n0\n' 
 printf 'c by the first variable\na 1 0\n-1 0\n' > two.txt
 says 0 $'1\n2\nclosing' cubes names four.cnf two.txt
 says 0 '' cubes parts four.cnf two.txt four
-clauses=$'1 2 0 1\n-2 0\n-1 2 0\n -1 -2 00'
+clauses=$'1 2 0\n1 -2 0\n-1 2 0\n-1 -2 0'
 same four/1.cnf "p cnf 2 5"$'\n'"$clauses"$'\n'"1 0"
 same four/2.cnf "p cnf 2 5"$'\n'"$clauses"$'\n'"-1 0"
 same four/closing.cnf "p cnf 2 6"$'\n'"$clauses"$'\n'"-1 0"$'\n'"1 0"
@@ -64,7 +66,9 @@ echo '6 0 5 3 4 0' > four/1.lrat
 echo '6 0 5 1 2 0' > four/2.lrat
 echo '7 0 5 6 0' > four/closing.lrat
 says 0 '' cubes check four.cnf two.txt four 1 2 closing
-says 0 'all parts are verified: 2 cubes, and the closing formula' cubes report four.cnf two.txt four
+all='s VERIFIED UNSAT BY 3 RECEIPTS'
+says 0 "$all" cubes report four.cnf two.txt four
+says 0 "$all" bash -c 'cat four/*.receipt | join_check four.cnf - --cubes <(sed "s/^a//" two.txt)'
 
 # What is kept holds for this formula and these cubes alone.
 printf '1 2 0\n1 -2 0\n-1 2 0\n' > three.cnf
@@ -101,7 +105,7 @@ printf '1 2 0\n-1 2 0\n' > open_at_2.cnf
 mkdir found
 printf 's SATISFIABLE\nv 1 2 0\n' > found/1.answer
 says 10 '1: found/1.answer satisfies the formula: s VERIFIED SAT'$'\n''2: no proof' cubes check open_at_2.cnf two.txt found 1 2
-by_1='the formula can be satisfied, by the answer of 1: s VERIFIED SAT'
+by_1='1: found/1.answer satisfies the formula: s VERIFIED SAT'
 says 10 $'2: no proof\nclosing: no proof\n'"$by_1" cubes report open_at_2.cnf two.txt found
 says 0 $'2\nclosing' cubes left open_at_2.cnf two.txt found
 says 1 $'1: what is kept is of another formula or cube\n2: no proof\nclosing: no proof\n3 of 3 parts are not verified' \
@@ -131,13 +135,23 @@ printf '1 0\n-1\n' > open.txt
 says 2 'open.txt: line 2: not literals up to a 0' cubes names four.cnf open.txt
 says 2 'there is no part 3' cubes check four.cnf two.txt four 3
 says 2 'cannot open none.cnf: No such file or directory' cubes report none.cnf two.txt four
-says 2 'cannot write four/1.checked: File too large' bash -c 'echo "6 0 5 3 4 0" > four/1.lrat
-  ulimit -f 0; cubes check four.cnf two.txt four 1; status=$?; ls four/1.checked* 2> /dev/null; exit "$status"'
+says 2 'cannot write four/1.receipt: File too large' bash -c 'echo "6 0 5 3 4 0" > four/1.lrat
+  ulimit -f 0; cubes check four.cnf two.txt four 1; status=$?; ls four/1.receipt* 2> /dev/null; exit "$status"'
 LRAT_CHECK=./none says 2 'cannot run ./none: No such file or directory' cubes check four.cnf two.txt four 2
+echo '6 0 5 3 4 0' > four/1.lrat
+echo '6 0 5 1 2 0' > four/2.lrat
+says 0 '' cubes check four.cnf two.txt four 1 2
+JOIN_CHECK=./none says 2 'cannot run ./none: No such file or directory' cubes report four.cnf two.txt four
+printf '1 0\n-1 0\n' > plain.txt
+printf '#!/bin/sh\nexec join_check three.cnf - --cubes plain.txt\n' > bin/joiner
+chmod +x bin/joiner
+JOIN_CHECK=joiner says 1 'the receipts are not joined: no receipt shows part 1' cubes report four.cnf same.txt four
+rm four/[12].receipt
+python3 -B "$top/tests/cubes/fuzz.py" "${1:-100}" "${2:-1}" || wrong=1
 # programs beside the script, ahead of those on PATH
 mkdir alone false
 cp "$top/tools/cubes" alone
-for program in drat_check lrat_check model_check; do
+for program in drat_check join_check lrat_check model_check; do
   cp -L "bin/$program" alone
   printf '#!/bin/sh\nexit 1\n' > "false/$program"
   chmod +x "false/$program"
@@ -181,10 +195,10 @@ says 0 '' cubes parts three.cnf two.txt theirs
 says 0 '' cubes parts four.cnf two.txt theirs
 same theirs/2.cnf "$(cat four/2.cnf)"
 cp four/2.lrat theirs
-echo theirs > theirs/2.checked
-faults 'cannot write theirs/2.checked: there is a file that cubes did not write' cubes check four.cnf two.txt theirs 1 2
-same theirs/2.checked theirs
-: > theirs/2.checked
+echo theirs > theirs/2.receipt
+faults 'cannot write theirs/2.receipt: there is a file that cubes did not write' cubes check four.cnf two.txt theirs 1 2
+same theirs/2.receipt theirs
+: > theirs/2.receipt
 says 0 '' cubes check four.cnf two.txt theirs 2
 faults 'cannot use own/1.cnf: File exists' cubes parts four.cnf two.txt own/1.cnf
 
@@ -231,7 +245,6 @@ done
 
 # What can't be written is no success, and a name need not be UTF-8.
 says 0 '' cubes check four.cnf two.txt four 1 2 closing
-all='all parts are verified: 2 cubes, and the closing formula'
 says 0 "$all" cubes report four.cnf two.txt four
 faults 'cannot use standard output: No space left on device' bash -c 'cubes report four.cnf two.txt four > /dev/full'
 faults 'standard output is closed' bash -c 'cubes report four.cnf two.txt four >&-'
@@ -265,7 +278,8 @@ for packer in 'gzip gz' 'xz xz' 'lzma lzma' 'bzip2 bz2' 'zstd zst'; do
   echo 0 | "$tool" -qc > "$end/1.drat.$end"
   says 0 '' cubes check four.cnf two.txt "$end" 1
   printf 's SATISFIABLE\nv 1 2 0\n' | "$tool" -qc > "$end/1.answer.$end"
-  says 10 "1: $end/1.answer.$end satisfies the formula: s VERIFIED SAT" cubes check "open_at_2.cnf.$end" two.txt "$end" 1
+  satisfies="1: $end/1.answer.$end satisfies the formula: s VERIFIED SAT"
+  says 10 "$satisfies" cubes check "open_at_2.cnf.$end" two.txt "$end" 1
   # a packed proof of another part, and one that is cut off
   rm "$end"/1.*
   cp "$end/2.lrat.$end" "$end/1.lrat.$end"
@@ -274,7 +288,7 @@ for packer in 'gzip gz' 'xz xz' 'lzma lzma' 'bzip2 bz2' 'zstd zst'; do
   "$tool" -qc four/1.lrat | head -c -5 > "$end/1.lrat.$end"
   status=0
   cubes check four.cnf two.txt "$end" 1 2 > said 2>&1 || status=$?
-  if [[ $status != 1 || $(cat said) != "1: $end/1.lrat.$end is refused: cannot unpack $end/1.lrat.$end: "* || $(wc -l < said) != 1 || -e $end/1.checked ]]; then
+  if [[ $status != 1 || $(cat said) != "1: $end/1.lrat.$end is refused: cannot unpack $end/1.lrat.$end: "* || $(wc -l < said) != 1 || -e $end/1.receipt ]]; then
     printf '%s, a proof that is cut off: status %d, %s\n' "$end" "$status" "$(cat said)"
     wrong=1
   fi
@@ -295,7 +309,7 @@ done
 lies() {
   local status=0 said
   said=$(cubes report four.cnf two.txt liar 2>&1) || status=$?
-  if [[ $status != 1 || $said == *"all parts"* || $said == *'s VERIFIED'* ]]; then
+  if [[ $status != 1 || $said == *'s VERIFIED'* ]]; then
     printf '%s: status %d, it wrote: %s\n' "$1" "$status" "$said"
     wrong=1
   fi
@@ -304,18 +318,22 @@ lies() {
 }
 cp -R four liar
 says 0 "$all" cubes report four.cnf two.txt liar
-rm liar/2.checked
-lies 'a record is missing'
-rm liar/closing.{checked,lrat}
+rm liar/2.receipt
+lies 'a receipt is missing'
+rm liar/closing.{receipt,lrat}
 lies 'the closing part is missing'
-sed -i 's/^added 0/added 1/; t; s/^added ./added 0/' liar/2.checked
-lies 'a record was edited'
-cp liar/1.checked liar/2.checked
-lies 'the record of another part'
-sed -i "s/^formula .*/formula $(sha256sum < three.cnf | cut -d ' ' -f 1)/" liar/1.checked
-lies 'the record of another formula'
-printf 'satisfied\nformula %s\n' "$(sha256sum < three.cnf | cut -d ' ' -f 1)" > liar/1.checked
+sed -i 's/ 0\([^ ]*\)$/ 1\1/; t; s/ .\([^ ]*\)$/ 0\1/' liar/2.receipt
+lies 'a receipt was edited'
+cp liar/1.receipt liar/2.receipt
+lies 'the receipt of another part'
+for of in 'cubes part three.cnf two.txt 1' 'cat four.cnf' 'cat three.cnf'; do
+  printf 'refuted sha256 %s\n' "$($of | sha256sum | cut -d ' ' -f 1)" > liar/1.receipt
+  lies "the receipt of another text: $of"
+done
+printf 'satisfied sha256 %s\n' "$(sha256sum < three.cnf | cut -d ' ' -f 1)" > liar/1.receipt
 lies 'an answer to another formula'
+printf 'satisfied sha256 %s\n' "$(sha256sum < four.cnf | cut -d ' ' -f 1)" > liar/1.receipt
+lies 'an answer that is not there'
 # the parts of a formula that can be refuted, as those of one that can't
 for name in 1 2 closing; do
   says 1 "$name: liar/$name.lrat is refused: $(cubes part three.cnf two.txt "$name" | lrat_check - "liar/$name.lrat" 2>&1 | head -n 1)" \
@@ -356,7 +374,7 @@ block() {
   awk -v head="\`\`\`$1" '$0 == head { on = 1; next } /^```/ { on = 0 } on' "$top/docs/SCALE.md"
 }
 
-whole='all parts are verified: 36 cubes, and the closing formula'
+whole='s VERIFIED UNSAT BY 37 RECEIPTS'
 # runs WORDS: the commands of this block must end well, and tell that all is verified
 runs() {
   block "$1" > commands
@@ -443,7 +461,7 @@ solved 3
 # interrupted COMMAND..: a recipe that ends by an interrupt while the solver is slow. No proof is taken for a whole one.
 interrupted() {
   local pid
-  rm -f parts/{1,2,3,4,5,6,7,closing}.{drat,checked}
+  rm -f parts/{1,2,3,4,5,6,7,closing}.{drat,receipt}
   touch slow
   set -m
   "$@" > said 2> err &
@@ -495,7 +513,7 @@ if has make; then
 fi
 
 if has parallel; then
-  rm -f parts/*.checked parts/20.drat
+  rm -f parts/*.receipt parts/20.drat
   runs 'sh parallel'
   solved 1
   interrupted bash -euo pipefail <(block 'sh parallel')
@@ -504,7 +522,7 @@ if has parallel; then
 fi
 
 if has snakemake; then
-  rm parts/{1,2,3}.{drat,checked}
+  rm parts/{1,2,3}.{drat,receipt}
   snakemake -q -j 4 --keep-going > said 2> err || true
   if ! grep -qx "$whole" said; then
     printf 'snakemake: %s %s\n' "$(cat said)" "$(cat err)"
@@ -518,8 +536,8 @@ sed -i 5d formula.cnf
 block 'sh xargs' > commands
 status=0
 bash commands > said 2> err || status=$?
-if ((status != 10)) || ! grep -q ': parts/[0-9]*.answer satisfies the formula: s VERIFIED SAT$' said ||
-  ! tail -n 1 said | grep -q '^the formula can be satisfied, by the answer of [0-9]*: s VERIFIED SAT$'; then
+if ((status != 10)) || ! head -n 1 said | grep -q ': parts/[0-9]*.answer satisfies the formula: s VERIFIED SAT$' ||
+  ! tail -n 1 said | grep -q ': parts/[0-9]*.answer satisfies the formula: s VERIFIED SAT$'; then
   printf 'a formula that can be satisfied: status %d, %s %s\n' "$status" "$(cat said)" "$(cat err)"
   wrong=1
 fi

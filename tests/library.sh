@@ -1,5 +1,5 @@
 #!/usr/bin/env bash
-# Makes what the gate does not: the archive of the library for C, and the module of a program.
+# Makes what the gate does not: the archive of the library for C, and the modules of two programs.
 #
 # Both are made in a copy, over the libraries that `./test.sh` or an earlier run has left, and what that leaves is taken over. Where that
 # can't be done, it says why, and the scripts that want them make them.
@@ -12,7 +12,7 @@ mkdir "$work/copy"
 tar -c --exclude=./.git --exclude=out --exclude=target . | tar -x -C "$work/copy"
 find crates -mindepth 3 -maxdepth 3 -path '*/out/rlib' -exec cp -a --parents {} "$work/copy" \;
 crate=$(realpath --relative-to . "$(dirname "$(dirname "$(bindings/build.sh --archive)")")")
-(cd "$work/copy/$crate" && rt lib && ../../tools/portable.sh --module lrat_check) > "$work/said" 2>&1 ||
+(cd "$work/copy/$crate" && rt lib && ../../tools/portable.sh --module lrat_check circuit_check) > "$work/said" 2>&1 ||
   echo "not all was built over the gate's libraries: $(tail -n 3 "$work/said")"
 for kept in "$work"/copy/crates/*/out/; do
   crate=${kept%/out/}

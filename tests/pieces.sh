@@ -160,7 +160,7 @@ for name in 12.cnf 9.drat count; do
   rm "two/$name"
 done
 says 0 'cut into 2 pieces' "${cut[@]}"
-touch two/17.checked two/9.drat two/3.cnf.new
+touch two/17.receipt two/9.drat two/3.cnf.new
 says 0 'cut into 2 pieces' "${cut[@]}"
 says 0 $'1.cnf\n1.drat\n2.cnf\n2.drat\ncount\ncut\nnotes' ls two
 # a cut that did not come to its end has marked it too
@@ -178,14 +178,28 @@ says 1 $'2: not verified\n1 of 2 pieces are not verified' pieces report eight.cn
 joins() {
   local said='s VERIFIED UNSAT BY 2 RECEIPTS'
   [[ $1 == 0 ]] || said=$'s NOT VERIFIED\nno receipts lead from the formula to one that is refuted'
-  says "$1" "$said" bash -c "pieces receipts $2 two | join_check $2 -"
+  says "$1" "$said" bash -c "cat two/*.receipt | join_check $2 -"
 }
 joins 3 eight.cnf
 says 0 '' pieces check eight.cnf two 2
-whole='all pieces are verified: 2, and the last one is refuted: s VERIFIED UNSAT'
+whole='s VERIFIED UNSAT BY 2 RECEIPTS'
 says 0 "$whole" pieces report eight.cnf two
 joins 0 eight.cnf
 says 0 '' pieces left eight.cnf two
+
+# What joins the receipts says it, or nobody does. unjoined BODY WORDS: where this is in its place, the report ends with these words
+unjoined() {
+  printf '#!/bin/sh\n%s\n' "$1" > bin/joiner
+  chmod +x bin/joiner
+  JOIN_CHECK=joiner says 1 "the receipts are not joined: $2" pieces report eight.cnf two
+}
+unjoined 'exit 0' 'joiner ended with status 0'
+unjoined 'echo s VERIFIED UNSAT' 's VERIFIED UNSAT'
+unjoined "echo $whole; echo" "$whole"
+unjoined "echo $whole; exit 3" "$whole"
+unjoined 'kill -KILL $$' 'joiner ended with status -9'
+unjoined "exec join_check three.cnf -" 'no receipts lead from the formula to one that is refuted'
+JOIN_CHECK=./none says 2 'cannot run ./none: No such file or directory' pieces report eight.cnf two
 
 # what is kept is of these clauses alone: of this formula, and of the clauses that the neighbour has
 sed 5d eight.cnf > seven.cnf
@@ -230,7 +244,7 @@ says 0 '' pieces check eight.cnf two 1
 says 0 '' pieces check eight.cnf two 2
 # one that came to a conflict is enough, and nothing is told of what is behind it
 echo 3 > two/count
-says 0 'pieces 1 to 2 of 3 are verified, and piece 2 is refuted: s VERIFIED UNSAT' pieces report eight.cnf two
+says 0 "$whole" pieces report eight.cnf two
 echo 1 > two/count
 says 1 $'the last piece: it comes to no conflict\n1 of 1 pieces are not verified' pieces report eight.cnf two
 rm two/count
@@ -256,10 +270,10 @@ PATH=$work/false:$PATH says 0 "$whole" alone/pieces run eight.cnf eight.drat bes
 
 # cut and checked at once: a verified piece is deleted, one that is refused stays
 says 0 "$whole" pieces run eight.cnf - ran --lemmas 1 --jobs 2 < eight.drat
-says 0 $'1.checked\n2.checked\ncount\ncut' ls ran
+says 0 $'1.receipt\n2.receipt\ncount\ncut' ls ran
 head -n 12 eight.drat > weak.drat
 fails 1 '2: ran/2.drat is refused' pieces run eight.cnf weak.drat ran --lemmas 1
-says 0 $'1.checked\n2.cnf\n2.drat\ncount\ncut' ls ran
+says 0 $'1.receipt\n2.cnf\n2.drat\ncount\ncut' ls ran
 
 # What is killed, ends early or says something else is not verified, and is named; without --jobs no more run than the processors of the process.
 for lie in 'kill -KILL $$' 'exit 0' 'echo s VERIFIED; exit 0' 'echo s VERIFIED PIECE; exit 1' 'echo s VERIFIED UNSAT; exit 3'; do
@@ -278,7 +292,7 @@ fi
 # The last piece first: each shows what the one behind it has used, and no more. A lemma that is wrong and that no piece needs is refused
 # where all that lives is shown.
 says 0 "$whole" pieces run eight.cnf eight.drat last --lemmas 1 --memory
-says 0 $'1.checked\n2.checked\ncount\ncut' ls last
+says 0 $'1.receipt\n2.receipt\ncount\ncut' ls last
 DRAT_CUT=./none DRAT_CHECK=./none says 0 "$whole" pieces run eight.cnf eight.drat last --lemmas 1 --memory
 says 0 "$whole" pieces run eight.cnf - last --lemmas 1 --memory < eight.drat
 fails 1 '2: last/2.drat is refused' pieces run eight.cnf weak.drat last --lemmas 1 --memory
@@ -306,9 +320,9 @@ printf '#!/bin/sh\n[ "$1" != twice.cnf ] || exit 9\nexec drat_check "$@"\n' > bi
 chmod +x bin/not_the_first
 anew=(pieces run twice.cnf twice.drat twice --lemmas 1 --live 100 --memory)
 DRAT_CHECK=not_the_first fails 1 '1: twice/1.drat is refused: not_the_first ended with status 9' "${anew[@]}"
-rm twice/2.checked
-says 0 'all pieces are verified: 3, and the last one is refuted: s VERIFIED UNSAT' "${anew[@]}"
-says 0 $'1.checked\n2.checked\n3.checked\ncount\ncut' ls twice
+rm twice/2.receipt
+says 0 's VERIFIED UNSAT BY 3 RECEIPTS' "${anew[@]}"
+says 0 $'1.receipt\n2.receipt\n3.receipt\ncount\ncut' ls twice
 
 # faults WORDS COMMAND..: it must end with status 2, say why in one line on standard error, with these words, and write nothing else
 faults() {
@@ -332,15 +346,15 @@ cp eight.cnf own/-
   says 0 'cut into 2 pieces' pieces cut - 7.drat cut --lemmas 1
   says 0 'cut into 2 pieces' pieces cut --lemmas 1 -- - ../eight.drat -f
   says 0 '' pieces check -- - -f 1 2
-  says 0 'all pieces are verified: 2, and the last one is refuted: s VERIFIED UNSAT' pieces run - - ran --lemmas 1 < 7.drat
+  says 0 "$whole" pieces run - - ran --lemmas 1 < 7.drat
   exit "$wrong"
 ) < short || wrong=1
 same own/7.drat "$(cat eight.drat)"
 "${cut[@]}" > said
-echo theirs > two/1.checked
-faults 'cannot write two/1.checked: there is a file that pieces did not write' pieces check eight.cnf two 2 1
-same two/1.checked theirs
-rm two/1.checked
+echo theirs > two/1.receipt
+faults 'cannot write two/1.receipt: there is a file that pieces did not write' pieces check eight.cnf two 2 1
+same two/1.receipt theirs
+rm two/1.receipt
 
 # FRAT is named, before anything is deleted or written.
 printf 'o 1 1 2 3 0\na 9 1 2 0\n' > text.frat
@@ -453,27 +467,27 @@ lies() {
 }
 cp -R two liar
 says 0 "$whole" pieces report eight.cnf liar
-sed -i 's/^behind 0/behind 1/; t; s/^behind ./behind 0/' liar/1.checked
+sed -i 's/ 0\([^ ]*\)$/ 1\1/; t; s/ .\([^ ]*\)$/ 0\1/' liar/1.receipt
 lies 'the sum behind a piece was edited'
-sed -i 's/^before 0/before 1/; t; s/^before ./before 0/' liar/2.checked
+sed -i 's/ 0\([^ ]*\)$/ 1\1/; t; s/ .\([^ ]*\)$/ 0\1/' liar/2.receipt
 lies 'the sum before a piece was edited'
-sed -i 's/^verified$/Verified/' liar/1.checked
+sed -i 's/^carries/Carries/' liar/1.receipt
 lies 'a record was edited'
-printf '\377' > liar/2.checked
+printf '\377' > liar/2.receipt
 lies 'a record that is no text'
-rm liar/1.checked
+rm liar/1.receipt
 lies 'a record is missing'
 rm liar/2.*
 lies 'a piece is missing'
-cp liar/2.checked liar/1.checked
+cp liar/2.receipt liar/1.receipt
 lies 'the record of another piece'
 # pieces of another formula, all of them and some
 { sed 's/^p cnf 3 9/p cnf 3 10/' eight.cnf; echo '3 2 1 0'; } > nine.cnf
 pieces cut nine.cnf eight.drat nine --lemmas 1 > said
 says 0 '' pieces check nine.cnf nine 1 2
-cp nine/1.checked liar/1.checked
+cp nine/1.receipt liar/1.receipt
 lies 'the first piece of another formula'
-cp nine/2.checked liar/2.checked
+cp nine/2.receipt liar/2.receipt
 lies 'the last piece of another formula'
 cp nine/* liar
 lies 'all pieces of another formula'
@@ -481,11 +495,12 @@ says 1 $'1: no file liar/1.drat\n2: no file liar/2.cnf' bash -c 'rm liar/1.drat 
 lies 'pieces without files'
 
 # As `checked --while` has it: right and wrong answers of solvers that are written here, and nothing is left.
-# ends STATUS OUTPUT COMMAND..: it must end so, and write this to standard output
+# ends STATUS PATTERN COMMAND..: it must end so, and write what matches to standard output
 ends() {
   local status=0 said
   said=$("${@:3}" 2> err) || status=$?
-  if [[ $status != "$1" || $said != "$2" || $(ls room) ]]; then
+  # shellcheck disable=SC2053 # the pattern is one
+  if [[ $status != "$1" || $said != $2 || $(ls room) ]]; then
     printf '%s: status %d, it wrote: %s %s, and left: %s\n' "${*:3}" "$status" "$said" "$(cat err)" "$(ls room)"
     wrong=1
   fi
@@ -503,11 +518,11 @@ solver lost <<< 'printf "1 0\n" > "$2"; exit 1'
 # more than a pipe holds, so that it has to be stopped
 solver garbled <<< 'yes x > "$2"; exit 20'
 printf 'p cnf 2 1\n1 2 0\n' > open.cnf
-ends 20 "$unsat" checked --while refuter eight.cnf
+ends 20 "$unsat BY * RECEIPTS" checked --while refuter eight.cnf
 ends 20 's UNSATISFIABLE' checked --while --answer refuter eight.cnf
-ends 0 "$unsat" checked --want unsat --while refuter eight.cnf
+ends 0 "$unsat BY * RECEIPTS" checked --want unsat --while refuter eight.cnf
 ends 1 '' checked --while weak eight.cnf
-ends 20 "$unsat" checked --while --jobs 2 --verbose refuter eight.cnf
+ends 20 "$unsat BY * RECEIPTS" checked --while --jobs 2 --verbose refuter eight.cnf
 if ! grep -q -- '--jobs 2$' err; then
   cat err
   wrong=1
@@ -544,8 +559,11 @@ if ! grep -q 'cannot run python3' err; then
   wrong=1
 fi
 gzip -kf eight.cnf
-ends 20 "$unsat" checked --while refuter eight.cnf.gz
-PIECES=./none ends 2 '' checked --while refuter eight.cnf
+ends 20 "$unsat BY * RECEIPTS" checked --while refuter eight.cnf.gz
+for name in PIECES JOIN_CHECK; do
+  ends 2 '' env "$name=./none" checked --while refuter eight.cnf
+  grep -qx 'cannot run ./none' err || { cat err; wrong=1; }
+done
 solver slow <<< 'printf "1 2 0\n" > "$2"; echo > begun; exec sleep 60'
 rm -f begun
 set -m
@@ -564,7 +582,7 @@ if [[ $status != 143 || $(ls room) ]]; then
   wrong=1
 fi
 
-python3 -B "$top/tests/pieces/fuzz.py" drat_cut drat_check "${1:-300}" "${2:-1}" || wrong=1
+python3 -B "$top/tests/pieces/fuzz.py" drat_cut drat_check join_check "${1:-300}" "${2:-1}" || wrong=1
 python3 -B "$top/tests/pieces/held.py" drat_check lrat_check "$((2 * ${1:-300}))" "${2:-1}" || wrong=1
 
 # A proof with witnesses, in pieces: pigeons exchange their holes, and what says so is deleted once a pigeon has left the last hole.
@@ -572,8 +590,8 @@ python3 -B "$top/tests/drat/formulas.py" pigeons 6 > pigeons.cnf
 python3 -B "$top/tests/drat/formulas.py" exchanges 6 |
   awk 'NF == 7 { gone = gone "d " $1 " " $2 " 0\n" } { print } NF == 2 { printf "%s", gone; gone = "" }' > exchanges
 says 0 's VERIFIED UNSAT' drat_check pigeons.cnf exchanges
-fails 0 'and the last one is refuted: s VERIFIED UNSAT' pieces run pigeons.cnf exchanges exchanged --lemmas 10 --live 100000
-fails 0 'and the last one is refuted: s VERIFIED UNSAT' pieces run pigeons.cnf exchanges backward --lemmas 10 --live 100000 --memory
+fails 0 's VERIFIED UNSAT BY ' pieces run pigeons.cnf exchanges exchanged --lemmas 10 --live 100000
+fails 0 's VERIFIED UNSAT BY ' pieces run pigeons.cnf exchanges backward --lemmas 10 --live 100000 --memory
 if (($(cat exchanged/count) < 3)); then
   echo "the proof with witnesses is not cut"
   wrong=1
@@ -583,8 +601,8 @@ fails 1 'is refused' pieces run pigeons.cnf exchanges plain --lemmas 10 --live 1
 # A proof with definitions, in pieces: Cook's, of the pigeonhole.
 python3 -B "$top/tests/drat/formulas.py" pigeons 8 > formula.cnf
 python3 -B "$top/tests/drat/formulas.py" extended 8 > cook.drat
-fails 0 'and the last one is refuted: s VERIFIED UNSAT' pieces run formula.cnf cook.drat cook --lemmas 50 --live 100000
-fails 0 'and the last one is refuted: s VERIFIED UNSAT' pieces run formula.cnf cook.drat backward --lemmas 50 --live 100000 --memory
+fails 0 's VERIFIED UNSAT BY ' pieces run formula.cnf cook.drat cook --lemmas 50 --live 100000
+fails 0 's VERIFIED UNSAT BY ' pieces run formula.cnf cook.drat backward --lemmas 50 --live 100000 --memory
 if (($(cat cook/count) < 3)); then
   echo "the proof by definitions is not cut"
   wrong=1
@@ -610,7 +628,7 @@ stopped() {
 goes_on() {
   DRAT_CHECK=stops fails "$1" "$2" "${backward[@]}"
 }
-refuted='and the last one is refuted: s VERIFIED UNSAT'
+refuted='s VERIFIED UNSAT BY '
 stopped
 goes_on 0 "$refuted"
 same tried $'last/3.cnf\nlast/2.cnf\nformula.cnf'
@@ -645,10 +663,10 @@ goes_on 0 "$refuted"
 same tried $'last/4.all\nlast/3.cnf\nlast/2.cnf\nformula.cnf'
 # the clauses have taken their place, and the record is not written, or is of others
 stopped
-rm last/4.checked
+rm last/4.receipt
 goes_on 0 "$refuted"
 stopped
-sed -i 's/^before .*/before 0000000000000000000000000000000000000000000000000000000000000000/' last/4.checked
+sed -i 's/sha256 [0-9a-f]*/sha256 0000000000000000000000000000000000000000000000000000000000000000/' last/4.receipt
 goes_on 0 "$refuted"
 same tried $'last/4.all\nlast/3.cnf\nlast/2.cnf\nformula.cnf'
 stopped
@@ -668,7 +686,7 @@ sleep 0.1
 exec drat_check "\$@"
 END
 rm -f waiting
-DRAT_CHECK=slow_check fails 0 'and the last one is refuted: s VERIFIED UNSAT' \
+DRAT_CHECK=slow_check fails 0 's VERIFIED UNSAT BY ' \
   pieces run twenty.cnf twenty.drat twenty --lemmas 300 --live 100000 --jobs 1 --ahead 1
 if (($(cat twenty/count) < 40 || $(sort -n waiting | tail -n 1) > 16)); then
   printf '%d pieces, of which so many were there: %s\n' "$(cat twenty/count)" "$(tr '\n' ' ' < waiting)"
@@ -687,7 +705,7 @@ block() {
 # runs WORDS: the commands of this block must end well, and tell that all is verified
 runs() {
   block "$1" > commands
-  if [[ ! -s commands ]] || ! bash -euo pipefail commands > said 2> err || [[ $(tail -n 1 said) != 'all pieces are verified: '*"$unsat" ]]; then
+  if [[ ! -s commands ]] || ! bash -euo pipefail commands > said 2> err || [[ $(tail -n 1 said) != "$unsat BY "*' RECEIPTS' ]]; then
     printf '%s: %s %s\n' "$1" "$(cat said)" "$(cat err)"
     wrong=1
   fi
@@ -704,7 +722,7 @@ while IFS= read -r line; do
   rm -rf pieces
   status=0
   bash -c "$line" > said 2> err < where || status=$?
-  if [[ $line == checked* && $status != 20 ]] || [[ $line != checked* && $status != 0 ]] || [[ $(tail -n 1 said) != *"$unsat" ]]; then
+  if [[ $line == checked* && $status != 20 ]] || [[ $line != checked* && $status != 0 ]] || [[ $(tail -n 1 said) != "$unsat BY "*' RECEIPTS' ]]; then
     printf '%s: status %d, it wrote: %s %s\n' "$line" "$status" "$(cat said)" "$(cat err)"
     wrong=1
   fi
@@ -715,7 +733,7 @@ for way in 'bash -e shown' 'make -s'; do
   has "${way%% *}" || continue
   rm -rf pieces
   read -r -a words <<< "$way"
-  if ! "${words[@]}" > said 2> err || [[ $(tail -n 1 said) != 'all pieces are verified: '*"$unsat" ]]; then
+  if ! "${words[@]}" > said 2> err || [[ $(tail -n 1 said) != "$unsat BY "*' RECEIPTS' ]]; then
     printf '%s: %s %s\n' "$way" "$(cat said)" "$(cat err)"
     wrong=1
   fi
@@ -729,7 +747,7 @@ if ((count < 5)); then
 fi
 
 # An interrupted run goes on: nothing is taken for verified that is not, and the rest is not checked again.
-rm pieces/*.checked
+rm pieces/*.receipt
 solver slow_check << 'END'
 case $1 in */3.cnf) echo > begun; exec sleep 60 ;; esac
 exec drat_check "$@"
@@ -746,20 +764,20 @@ for _ in {1..600}; do
 done
 kill -INT -- "-$pid"
 wait "$pid" || true
-if [[ -e pieces/3.checked ]] || ! pieces left formula.cnf pieces | grep -x 3 > where; then
+if [[ -e pieces/3.receipt ]] || ! pieces left formula.cnf pieces | grep -x 3 > where; then
   echo "not interrupted as it should be: $(ls pieces) $(cat err)"
   wrong=1
 fi
 bash -euo pipefail rest > said 2> err || true
-fails 0 "all pieces are verified: $count, and" pieces report formula.cnf pieces
+says 0 "$unsat BY $count RECEIPTS" pieces report formula.cnf pieces
 if has parallel; then
-  rm pieces/*.checked
+  rm pieces/*.receipt
   block 'sh pieces parallel' > commands
-  says 0 "all pieces are verified: $count, and the last one is refuted: $unsat" bash -euo pipefail commands
+  says 0 "$unsat BY $count RECEIPTS" bash -euo pipefail commands
 fi
 
 # two neighbours change their places; a proof of another formula
-rm pieces/*.checked
+rm pieces/*.receipt
 mv pieces/2.drat held
 mv pieces/3.drat pieces/2.drat
 mv held pieces/3.drat
@@ -770,8 +788,8 @@ fails 1 '1: foreign/1.drat is refused' pieces run formula.cnf multiplier.drat fo
 fails 0 "$unsat" pieces run multiplier.cnf multiplier.drat right --lemmas 500
 fails 1 'is refused' pieces run formula.cnf multiplier.drat foreign --lemmas 500 --memory
 fails 0 "$unsat" pieces run multiplier.cnf multiplier.drat right --lemmas 500 --memory
-ends 20 "$unsat" checked --while cadical multiplier.cnf
-ends 20 "$unsat" checked --while cadical formula.cnf
+ends 20 "$unsat BY * RECEIPTS" checked --while cadical multiplier.cnf
+ends 20 "$unsat BY * RECEIPTS" checked --while cadical formula.cnf
 if has cryptominisat5; then
   ends 1 '' checked --while cryptominisat5 formula.cnf
   if ! grep -q 'without it, FRAT and LRAT are read too' err; then

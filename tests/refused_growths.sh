@@ -70,7 +70,7 @@ stopped() {
   elif ((status == 2)); then
     unread=$((unread + 1))
   else
-    ((status == 1)) && grep -qE '^((Error in proof processor|formula|proof|answer|claims|models|circuit|second circuit|error writing): )?out of memory$' "$work/err"
+    ((status == 1)) && grep -qE '^((Error in proof processor|formula|proof|answer|claims|models|circuit|second circuit|stimulus|error writing): )?out of memory$' "$work/err"
   fi
 }
 
@@ -166,6 +166,8 @@ printf 'aig 4 2 0 2 2\n6\n8\n\3\1\3\1' > "$work/never.aig"
 printf -- '-4 0\n0\n' > "$work/never"
 printf 'aig 3 2 0 1 1\n6\n\2\2' | tee "$work/one.aig" > "$work/two.aig"
 printf 'aig 3 2 0 1 1\n0\n\2\2' > "$work/none.aig"
+printf 'aig 2 1 1 0 0 1\n2\n4\n' > "$work/machine.aig"
+printf '1\nb0\n0\n1\n0\n.\n' > "$work/stimulus"
 printf -- '-5 0\n0\n' > "$work/same"
 mapfile -t names < <(sed 's/: as written$//' "$work/all")
 for mode in FAIL_AT FAIL_FROM; do
@@ -201,6 +203,7 @@ for mode in FAIL_AT FAIL_FROM; do
   run 'two circuits' "$mode" 's VERIFIED SAME' "$circuit" same "$work"/{one,two}.aig --proof "$work/same"
   run 'an answer of a circuit' "$mode" $'s VERIFIED POSSIBLE\ni 11\no 1' "$circuit" never "$work/one.aig" --answer "$work/answer"
   run 'an answer of two circuits' "$mode" $'s VERIFIED DIFFERENT\ni 11\no 1\no 0' "$circuit" same "$work"/{one,none}.aig --answer "$work/answer"
+  run 'a stimulus' "$mode" 's VERIFIED REACHED' "$circuit" safe "$work/machine.aig" --stimulus "$work/stimulus"
   run 'a formula of circuits' "$mode" '' "$circuit" same "$work"/{one,two}.aig --formula "$work/hints"
 done
 parsed=$(awk '$1 == "p" { print "Parsed formula with " $3 " variables and " $4 " clauses" }' "$data/par10.cnf")

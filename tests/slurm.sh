@@ -31,7 +31,7 @@ end() {
 }
 trap end EXIT
 mkdir "$work/bin" "$work/slurm" "$work/slurm/"{state,spool}
-for program in drat_check drat_cut lrat_check model_check; do
+for program in drat_check drat_cut join_check lrat_check model_check; do
   built=$top/crates/${program}_main/out/${program}_main
   if [[ ! -x $built ]]; then
     echo "not built: $built"
@@ -163,7 +163,7 @@ hangs() {
   until_so "the solver hangs at $1" test -s "parts/$1.cnf.runs"
 }
 
-whole='all parts are verified: 64 cubes, and the closing formula'
+whole='s VERIFIED UNSAT BY 65 RECEIPTS'
 # Two parts hang. Of the first one the task is cancelled, of the second one the solver is killed.
 printf 'parts/7.cnf\nparts/31.cnf\n' > slow
 set -m
@@ -186,7 +186,7 @@ fi
 # It goes on with the two, and with one whose proof was damaged after it was verified: that one is refused, and stays.
 head -c 200 parts/20.drat > short
 mv short parts/20.drat
-rm parts/20.checked
+rm parts/20.receipt
 submits $'20: not verified\n1 of 65 parts are not verified' ./submit.sh || wrong=1
 if ! cat slurm-*.out | grep -q '^20: parts/20.drat is refused: '; then
   echo "part 20 is not refused"
@@ -223,13 +223,13 @@ block 'sh submit_pieces.sh' > submit_pieces.sh
 "$solver" -q formula.cnf proof.drat > said || true
 pieces cut formula.cnf proof.drat pieces --lemmas 2000 > said
 count=$(cat pieces/count)
-whole="all pieces are verified: $count, and the last one is refuted: s VERIFIED UNSAT"
+whole="s VERIFIED UNSAT BY $count RECEIPTS"
 submits "$whole" bash submit_pieces.sh || wrong=1
 if [[ $(echo left.*) != left.aaaa || $(cat left.aaaa) != "$(seq "$count")" ]]; then
   echo "not one array of $count pieces: $(ls left.*)"
   wrong=1
 fi
-rm pieces/*.checked
+rm pieces/*.receipt
 block 'sh submit_pieces.sh' | sed 's/-l 1000/-l 5/' > submit_pieces.sh
 submits "$whole" bash submit_pieces.sh || wrong=1
 if ((count < 6)) || [[ $(cat left.* | wc -l) != "$count" || $(ls left.* | wc -l) == 1 ]]; then
@@ -238,7 +238,7 @@ if ((count < 6)) || [[ $(cat left.* | wc -l) != "$count" || $(ls left.* | wc -l)
 fi
 cp pieces/2.drat kept
 head -n 5 kept > pieces/2.drat
-rm pieces/2.checked
+rm pieces/2.receipt
 submits $'2: not verified\n'"1 of $count pieces are not verified" bash submit_pieces.sh || wrong=1
 cp kept pieces/2.drat
 submits "$whole" bash submit_pieces.sh || wrong=1

@@ -6,6 +6,7 @@ All three must end with one status and line, and none is verified whose formula 
 """
 
 import os
+import re
 import subprocess
 import sys
 import tempfile
@@ -24,10 +25,10 @@ SCRIPTS = {
 
 
 def verdict(folder, formula, options, environment):
-    """How `checked` ends, and what it writes."""
+    """How `checked` ends, and what it writes, whether the receipts of pieces were joined or not."""
     call = [os.path.join(environment["TOOLS"], "checked"), *options, f"{folder}/solver", formula]
     ran = subprocess.run(call, capture_output=True, text=True, timeout=300, env=environment)
-    return ran.returncode, ran.stdout
+    return ran.returncode, re.sub(" BY [0-9]+ RECEIPTS$", "", ran.stdout, flags=re.MULTILINE)
 
 
 def try_case(folder, seed, environment):

@@ -73,16 +73,17 @@ exec drat_check "\$@"
 END
   export DRAT_CHECK=judge
 }
+joined='s VERIFIED UNSAT BY 2 RECEIPTS'
 judges 'sleep 60' ''
-ends 20 "$unsat" checked "${cut[@]}" long eight.cnf
+ends 20 "$joined" checked "${cut[@]}" long eight.cnf
 ends 20 's UNSATISFIABLE' checked --answer "${cut[@]}" long eight.cnf
-ends 0 "$unsat" checked --want unsat "${cut[@]}" long eight.cnf
-ends 20 "$unsat" checked --keep kept "${cut[@]}" long eight.cnf
+ends 0 "$joined" checked --want unsat "${cut[@]}" long eight.cnf
+ends 20 "$joined" checked --keep kept "${cut[@]}" long eight.cnf
 cmp kept eight.drat || wrong=1
 rm -f kept
 # a pass that does not heed its end, and one that was killed by others: the pieces speak for it
 judges "trap '' TERM; sleep 60; sleep 60" ''
-ends 20 "$unsat" checked "${cut[@]}" long eight.cnf
+ends 20 "$joined" checked "${cut[@]}" long eight.cnf
 # one that is killed by others before they have an end
 solver judge << 'END'
 case $2 in
@@ -91,7 +92,7 @@ case $2 in
 esac
 exec drat_check "$@"
 END
-ends 20 "$unsat" checked "${cut[@]}" long eight.cnf
+ends 20 "$joined" checked "${cut[@]}" long eight.cnf
 
 # A piece that is killed, lies or ends early is named, and claims nothing; the pass alone has the verdict.
 for piece in 'kill -KILL $$' 'exit 0' 'echo s VERIFIED; exit 0' 'echo s VERIFIED PIECE; exit 1' 'echo s VERIFIED PIECE; echo; exit 0' 'exit 3'; do
@@ -109,7 +110,7 @@ for piece in 'kill -KILL $$' 'exit 0' 'echo s VERIFIED; exit 0' 'echo s VERIFIED
 done
 # the same of what cuts, and of what checks pieces
 judges '' ''
-for pieces in 'exit 0' 'exit 20' 'echo : s VERIFIED UNSAT; exit 20' 'echo all pieces are verified: s VERIFIED UNSAT; exit 1' 'echo s VERIFIED UNSAT' 'kill -KILL $$'; do
+for pieces in 'exit 0' 'exit 20' "echo $joined; exit 20" "echo $joined; exit 1" 'echo s VERIFIED UNSAT' "echo $joined; echo more" 'kill -KILL $$'; do
   solver lying <<< "$pieces"
   PIECES=lying ends 20 "$unsat" checked "${cut[@]}" long eight.cnf
   judges 'exit 1' ''
@@ -123,6 +124,7 @@ DRAT_CUT=cut_short ends 1 '' checked "${cut[@]}" long eight.cnf
 unset DRAT_CHECK
 PIECES=./none ends 20 "$unsat" checked "${cut[@]}" long eight.cnf
 DRAT_CUT=./none ends 20 "$unsat" checked "${cut[@]}" long eight.cnf
+JOIN_CHECK=./none ends 20 "$unsat" checked "${cut[@]}" long eight.cnf
 
 # what is refused as a whole, and what is not cut
 ends 1 '' checked "${cut[@]}" refuter other.cnf

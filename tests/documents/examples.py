@@ -50,6 +50,9 @@ CIRCUIT = b"aig 3 2 0 1 1\n6\n\x02\x02"
 # A latch that keeps its 0, and the circuit that says so.
 MACHINE = b"aig 1 0 1 1 0\n2\n2\n"
 INVARIANT = b"aig 1 1 0 1 0\n3\n"
+# A latch that takes its input, and what makes it true.
+UNSAFE = b"aig 2 1 1 1 0\n2\n4\n"
+STIMULUS = b"1\nb0\n0\n1\n0\n.\n"
 SAME = b"-5 0\n4 0\n3 0\n2 0\n0\n"
 
 
@@ -105,7 +108,7 @@ def built(folder):
         os.symlink(os.path.abspath(f"tools/{tool}"), os.path.join(folder, tool))
 
 
-def furnish(room, program):
+def furnish(room, program, call):
     """Writes the files that the calls of a program name."""
     formula = SATISFIED if program == "model_check" else REFUTED
     written = {"drat_check": DRAT, "lrat_check": LRAT, "model_check": ANSWER}.get(program, b"")
@@ -136,7 +139,8 @@ def furnish(room, program):
         "session.icnf": ICNF,
         "session.idrup": IDRUP,
         "session.lidrup": LIDRUP,
-        "machine.aig": MACHINE,
+        "machine.aig": UNSAFE if "--stimulus" in call else MACHINE,
+        "machine.stim": STIMULUS,
         "invariant.aig": INVARIANT,
         **{f"{part}.drat": b"0\n" for part in ("init", "step", "bad")},
         "bin/application": b"#!/bin/sh\nprintf 'p lidrup\\ni 1 1 0\\nq -1 0\\ns UNSATISFIABLE\\nu -1 0 1 0\\n'\n",
@@ -166,7 +170,7 @@ def wrong_calls(program, programs):
     wrong = 0
     for call in calls:
         with tempfile.TemporaryDirectory() as room:
-            furnish(room, program)
+            furnish(room, program, call)
             path = os.pathsep.join((os.path.join(room, "bin"), os.path.abspath(programs), os.environ["PATH"]))
             run = subprocess.run(["bash", "-c", call], cwd=room, env={**os.environ, "PATH": path}, capture_output=True, text=True)
             refuted = call.startswith(("checked ", "verified ", "circuit_sweep ")) and "--want" not in call or "| follows_check " in call

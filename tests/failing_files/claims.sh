@@ -40,6 +40,9 @@ write_claims() {
   printf -- '-5 0\n4 0\n3 0\n2 0\n0\n' > same
   printf 'aig 3 2 0 1 1\n0\n\2\2' > none.aig
   printf 's SATISFIABLE\nv 2 3 0\n' > answer
+  # a latch that has the input of the last step is bad
+  printf 'aig 2 1 1 0 0 1\n2\n4\n' > machine.aig
+  printf '1\nb0\n0\n1\n0\n.\n' > stimulus
 }
 
 fail_reads_of_claims() {
@@ -55,6 +58,8 @@ fail_reads_of_claims() {
   read_everywhere 'different' 0 $'s VERIFIED DIFFERENT\ni 11\no 1\no 0' \
     "circuit: error reading circuit|second circuit: error reading circuit|answer: error reading answer" \
     "$circuit" same one.aig none.aig --answer answer
+  read_everywhere 'reached' 0 's VERIFIED REACHED' "circuit: error reading circuit|stimulus: error reading stimulus" \
+    "$circuit" safe machine.aig --stimulus stimulus
 }
 
 # Where a line or the formula for the solver can't be written whole, the status is 1, and no file is left.
@@ -71,6 +76,8 @@ fail_writes_of_claims() {
   wants 'the line of two circuits' 1 '' "$full"
   failing 'FAIL_WRITE=1' "$circuit" never one.aig --answer answer
   wants 'the lines of an answer' 1 '' "$full"
+  failing 'FAIL_WRITE=1' "$circuit" safe machine.aig --stimulus stimulus
+  wants 'the line of a stimulus' 1 '' "$full"
   for call in "$follows cnf claims" "$circuit never never.aig" "$circuit same one.aig two.aig"; do
     # shellcheck disable=SC2086 # several words
     failing '' $call --formula whole

@@ -1,6 +1,6 @@
-"""Random DRAT proofs in pieces: by `drat_cut` and `drat_check --holds`, by `drat_check` on the whole, and by the definition.
+"""Random DRAT proofs in pieces: by `drat_cut`, `drat_check --holds` and `join_check`, by `drat_check` on the whole, and by the definition.
 
-fuzz.py DRAT_CUT DRAT_CHECK COUNT [SEED]
+fuzz.py DRAT_CUT DRAT_CHECK JOIN_CHECK COUNT [SEED]
 
 The proofs have definitions (RAT) and deletions among their steps, of clauses that force a literal too, and every other one is damaged.
 Where each piece is verified and the last one refuted, the formula may not be satisfiable. A proof that meets the definition at every
@@ -8,16 +8,21 @@ step, and of which a checker may pass over nothing, must be verified in pieces; 
 whole. The clauses before a piece must be those that the steps before leave, and where a literal of one is turned, so that nobody has
 such a clause, the piece before must be refused. With the last piece first, each shows only what the one behind it has used, which is a part of
 what was before that: what is verified so can't be satisfied, and a proof that is not damaged and is verified in pieces must be verified so too.
+The receipts of pieces must be joined exactly if all are verified, and not if one of them is missing, has another digit, or is that of
+other clauses.
 """
 
+import hashlib
 import os
 import subprocess
 import sys
 import tempfile
 
-sys.path.insert(0, os.path.join(os.path.dirname(__file__), "..", "drat"))
+for place in "join", "drat":
+    sys.path.insert(0, os.path.join(os.path.dirname(__file__), "..", place))
 from formulas import binary_drat, dimacs, drat
 from fuzz import Case, is_redundant, is_satisfiable, is_tautology, meets_definition, propagate
+from judge import is_reached
 
 REFUTED, HELD = "s VERIFIED UNSAT\n", "s VERIFIED PIECE\n"
 
@@ -25,6 +30,11 @@ REFUTED, HELD = "s VERIFIED UNSAT\n", "s VERIFIED PIECE\n"
 def read_clauses(path):
     with open(path) as file:
         return [[int(it) for it in line.split()[:-1]] for line in file if line[0] != "p"]
+
+
+def sum_of(path):
+    with open(path, "rb") as file:
+        return hashlib.sha256(file.read()).hexdigest()
 
 
 def as_sets(clauses):
@@ -70,8 +80,8 @@ class Long(Case):
 class Pieces:
     """What the cutter writes of a case, and what the checker says of it."""
 
-    def __init__(self, cutter, checker, folder):
-        self.cutter, self.checker, self.folder = cutter, checker, folder
+    def __init__(self, cutter, checker, joiner, folder):
+        self.cutter, self.checker, self.joiner, self.folder = cutter, checker, joiner, folder
 
     def path(self, name, ending):
         return f"{self.folder}/{name}.{ending}"
@@ -93,14 +103,43 @@ class Pieces:
         return subprocess.run([self.checker, "--drat", self.before(name), self.path(name, "drat"), *held], capture_output=True, text=True, timeout=60)
 
     def verdict(self):
-        """Whether all pieces up to one that is refuted are verified; else what is said of the first other one."""
+        """Whether all pieces up to one that is refuted are verified; else what is said of the first other one. Keeps the receipts."""
+        self.receipts = []
         for name in range(1, self.count + 1):
             ran = self.check(name)
             if ran.returncode == 0 and ran.stdout == REFUTED:
+                self.receipts.append(f"refuted sha256 {sum_of(self.before(name))}\n")
                 return True, ""
             if ran.returncode != 0 or ran.stdout != HELD:
                 return False, f"piece {name} of {self.count}: status {ran.returncode}: {ran.stdout}{ran.stderr}"
+            behind = os.devnull if name == self.count else self.before(name + 1)
+            self.receipts.append(f"carries sha256 {sum_of(self.before(name))} sha256 {sum_of(behind)}\n")
         return False, f"piece {self.count} is held, and is the last one"
+
+    def joined(self, receipts):
+        """Whether receipts are joined, and what is said."""
+        ran = subprocess.run([self.joiner, f"{self.folder}/a.cnf", "-"], input="".join(receipts), capture_output=True, text=True, timeout=60)
+        return ran.returncode == 0, (ran.returncode, ran.stdout)
+
+    def join_fault(self, verified, draw):
+        """What is wrong of the join, if anything."""
+        is_joined, said = self.joined(self.receipts)
+        if is_joined != verified or (verified and said[1] != f"s VERIFIED UNSAT BY {len(self.receipts)} RECEIPTS\n"):
+            return f"the receipts of {len(self.receipts)} of {self.count} pieces, verified: {verified}: {said}"
+        if not verified:
+            return None
+        at = draw.randrange(len(self.receipts))
+        right = self.receipts[at]
+        # the digits of the digests
+        place = draw.choice([it for it in (*range(15, 79), *range(87, 151)) if it < len(right) - 1])
+        turned = right[:place] + ("0" if right[place] != "0" else "1") + right[place + 1 :]
+        for other in "", turned, right.replace(right.split()[2], hashlib.sha256(b"p cnf 0 1\n0\n").hexdigest()):
+            others = [*self.receipts[:at], other, *self.receipts[at + 1 :]]
+            arcs = [(words[2], words[4]) for words in map(str.split, others) if words[:1] == ["carries"]]
+            ends = [words[2] for words in map(str.split, others) if words[:1] == ["refuted"]]
+            if self.joined(others)[0] != is_reached(sum_of(self.before(1)), arcs, ends):
+                return f"receipt {at + 1} is {other}: {self.joined(others)[1]}"
+        return None
 
     def backward(self):
         """Why the pieces are not verified with the last one first, or nothing."""
@@ -155,6 +194,8 @@ def try_case(pieces, seed, counts):
     counts["verified"] += verified
     if verified and is_satisfiable(case.formula):
         return "verified, and the formula is satisfiable"
+    if why_not := pieces.join_fault(verified, case.draw):
+        return why_not
     refused = pieces.backward()
     counts["backward"] += not refused
     if not refused and is_satisfiable(case.formula):
@@ -177,10 +218,10 @@ def try_case(pieces, seed, counts):
     return None
 
 
-def main(cutter, checker, count, first=1):
+def main(cutter, checker, joiner, count, first=1):
     wrong, counts = 0, dict.fromkeys(("cut", "pieces", "verified", "backward", "turned"), 0)
     with tempfile.TemporaryDirectory() as folder:
-        pieces = Pieces(cutter, checker, folder)
+        pieces = Pieces(cutter, checker, joiner, folder)
         for seed in range(int(first), int(first) + int(count)):
             why = try_case(pieces, seed, counts)
             if why:

@@ -26,20 +26,20 @@ PART_PROOFS = {"1.lrat": "6 0 5 3 4 0\n", "2.lrat": "6 0 5 1 2 0\n", "closing.lr
 # Calls, each with its inputs, as they are named in it or found by it, and its outputs.
 CUBES_CALLS = (
     ("parts formula cubes f", ("formula", "cubes"), ("1.cnf", "2.cnf", "closing.cnf", "split")),
-    ("check formula cubes f 1 2", ("formula", "cubes", "f/1.lrat", "f/1.drat", "f/2.lrat", "f/2.answer"), ("1.checked", "2.checked")),
+    ("check formula cubes f 1 2", ("formula", "cubes", "f/1.lrat", "f/1.drat", "f/2.lrat", "f/2.answer"), ("1.receipt", "2.receipt")),
     ("parts formula.gz cubes.gz f", ("formula.gz", "cubes.gz"), ("1.cnf", "2.cnf", "closing.cnf", "split")),
-    ("check formula.gz cubes.gz f 1 2", ("formula.gz", "cubes.gz", "f/1.answer.gz", "f/2.drat.gz"), ("1.checked", "2.checked")),
+    ("check formula.gz cubes.gz f 1 2", ("formula.gz", "cubes.gz", "f/1.answer.gz", "f/2.drat.gz"), ("1.receipt", "2.receipt")),
 )
-CUT = ("1.cnf", "2.all", "1.checked", "7.drat", "count", "cut")
+CUT = ("1.cnf", "2.all", "1.receipt", "7.drat", "count", "cut")
 PIECES_CALLS = (
     ("cut formula proof f --lemmas 1", ("formula", "proof"), CUT),
     ("run formula proof f --lemmas 1", ("formula", "proof"), CUT),
     ("run formula proof f --lemmas 1 --memory", ("formula", "proof"), CUT),
-    ("check formula f 1", ("formula", "f/1.drat", "f/2.cnf", "f/count"), ("1.checked",)),
+    ("check formula f 1", ("formula", "f/1.drat", "f/2.cnf", "f/count"), ("1.receipt",)),
     ("cut formula.gz proof.gz f --lemmas 1", ("formula.gz", "proof.gz"), CUT),
     ("run formula.gz proof.gz f --lemmas 1", ("formula.gz", "proof.gz"), CUT),
     ("run formula.gz proof.gz f --lemmas 1 --memory", ("formula.gz", "proof.gz"), CUT),
-    ("check formula.gz f 1", ("formula.gz",), ("1.checked",)),
+    ("check formula.gz f 1", ("formula.gz",), ("1.receipt",)),
 )
 # Of an input that is found by its place in the folder, or is packed, the name can't be another one.
 LINKS = ("hard link", "link")
