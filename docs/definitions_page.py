@@ -25,6 +25,7 @@ CLAIMS = {
     "POSSIBLE": ("crates/circuit_check/specs/Claims.antt", "IsPossibleText"),
     "DIFFERENT": ("crates/circuit_check/specs/Claims.antt", "AreDifferentText"),
     "SAFE": ("crates/circuit_check/specs/Claims.antt", "IsSafeText"),
+    "REACHED": ("crates/circuit_check/specs/Claims.antt", "IsReachedText"),
 }
 # What is not followed: what a text is read as.
 READ = ("crates/circuit_text/specs/Aigers.antt", "crates/whole_formulas/specs/Lies.antt", "crates/sat_formula/specs/")

@@ -46,7 +46,8 @@ FILES = {
     "ANSWER": "answer",
     "RECEIPTS": "receipts",
     "drat_check PROOF": "DRAT or FRAT",
-    "session_check PROOF": "LIDRUP text",
+    "session_check PROOF": "LIDRUP",
+    "INTERACTION": "ICNF text",
 }
 
 WIDTH = 1120
