@@ -11,132 +11,176 @@
 //! `--version` of which version it is.
 #![tactic(auto)]
 
+ghost use Rattle.std.specs.Prelude.{◌≡◌, ℕ, List, [], ◌∷◌, Ok, Some, IfErr, codes, false, true};
+ghost use Rattle.std.specs.Io.KnownBytes.{Appends};
+ghost use Rattle.circuit_answers.specs.Lines.{open_text};
+ghost use Rattle.circuit_answers.specs.Reached.{reach_line};
+ghost use Rattle.circuit_answers.specs.declared.reach.Reach.TheVariants.{At};
+ghost use Rattle.circuit_check.specs.Answered.{OfDifferent, OfPossible, WritesDifferent, WritesPossible};
+ghost use Rattle.circuit_check.specs.Claims.{AreDifferentText, IsNeverFormula, IsNeverText, IsPossibleText, IsReachedText, IsSafeText, IsSameFormula, IsSameText};
+ghost use Rattle.circuit_check.specs.Verdicts.{claim_line};
+ghost use Rattle.circuit_check.specs.declared.line.Claim.TheVariants as claims;
+ghost use Rattle.circuit_check_main.specs.Asked.{writes_formula};
+ghost use Rattle.circuit_check_main.specs.Shown.{NamesFormula, NamesFormulas};
+ghost use Rattle.command.specs.Calls.{choices_of, is_given, operands_of, value_given};
+ghost use Rattle.verdicts.specs.declared.verdict.Verdict.TheVariants.{Verified};
+
 mod about;
+mod claimed;
 mod example;
 mod files;
-mod machines;
+mod formulas;
 mod names;
-mod stimuli;
+mod never;
+mod options;
+mod parts;
+mod reached;
+mod safe;
+mod same;
 
 use crate::about::ABOUT;
+use crate::claimed::{Claimed, claimed_by};
 use crate::example::check_example;
-use crate::files::{Circuits, check_answer, check_files, write_files};
-use crate::machines::{MachineNames, PartNames, check_machine, write_machine};
-use crate::names::NameRule;
-use crate::stimuli::check_stimulus;
-use command::{Call, misused, run_program};
+use crate::never::run_of_never;
+use crate::reached::run_of_reached;
+use crate::safe::run_of_safe;
+use crate::same::run_of_same;
+use command::{Call, HostNames, OutputSystem, run_program};
+use std::io;
+use std::io::Write;
 use std::process::ExitCode;
 
 fn main(rt: HostRuntime) -> ExitCode {
-    run_program(&rt, &ABOUT, |call| run(&rt, call))
-}
-
-fn run(rt: &HostRuntime, call: &Call<'_>) -> Result<u8, u8> {
-    if call.has("--example") {
-        return Ok(check_example(rt));
-    }
-    match call.operands.as_slice() {
-        [claim, ..] if call.has("--names") && claim.as_str() != "same" => {
-            Err(misused(rt, &ABOUT, "--names is of same"))
-        }
-        [claim, _, other @ ..]
-            if call.has("--stimulus") && (claim.as_str() != "safe" || !other.is_empty()) => {
-            Err(misused(rt, &ABOUT, "--stimulus is of safe MACHINE"))
-        }
-        [claim, circuit] if claim.as_str() == "never" => {
-            run_circuits(rt, call, Circuits::Never(circuit.as_str()))
-        }
-        [claim, circuit, other] if claim.as_str() == "same" => {
-            let (circuit, other) = (circuit.as_str(), other.as_str());
-            run_circuits(rt, call, Circuits::Same(circuit, other, rule_of(call)))
-        }
-        [claim, machine, invariant] if claim.as_str() == "safe" => {
-            let (machine, invariant) = (machine.as_str(), invariant.as_str());
-            run_machine(rt, call, MachineNames { machine, invariant })
-        }
-        [claim, machine] if claim.as_str() == "safe" => run_stimulus(rt, call, machine.as_str()),
-        _ => Err(misused(
-            rt,
-            &ABOUT,
-            "never CIRCUIT, same CIRCUIT OTHER, safe MACHINE INVARIANT, or safe MACHINE --stimulus STIMULUS",
-        )),
-    }
-}
-
-/// What is done if names differ.
-fn rule_of(call: &Call<'_>) -> NameRule {
-    if call.has("--names") {
-        NameRule::Refuse
-    } else {
-        NameRule::Warn
-    }
-}
-
-/// What `never` and `same` need.
-const ONE_OF: &str = "one of --proof, --answer and --formula";
-
-/// The options of `never` and `same`.
-const OPTIONS: [&str; 3] = ["--proof", "--answer", "--formula"];
-
-/// The options of `safe`.
-const PARTS: [&str; 6] = [
-    "--init-proof",
-    "--step-proof",
-    "--bad-proof",
-    "--init-formula",
-    "--step-formula",
-    "--bad-formula",
-];
-
-fn run_circuits(rt: &HostRuntime, call: &Call<'_>, circuits: Circuits<'_>) -> Result<u8, u8> {
-    if parts_in(call) > 0 {
-        return Err(misused(rt, &ABOUT, ONE_OF));
-    }
-    match (
-        call.value("--proof"),
-        call.value("--answer"),
-        call.value("--formula"),
-    ) {
-        (Some(proof), None, None) => check_files(rt, circuits, proof),
-        (None, Some(answer), None) => check_answer(rt, circuits, answer),
-        (None, None, Some(formula)) => write_files(rt, circuits, formula),
-        _ => Err(misused(rt, &ABOUT, ONE_OF)),
-    }
-}
-
-fn run_machine(rt: &HostRuntime, call: &Call<'_>, names: MachineNames<'_>) -> Result<u8, u8> {
-    let is_mixed = OPTIONS.iter().any(|flag| call.has(flag)) || parts_in(call) != 3;
-    let proofs = parts(call, "--init-proof", "--step-proof", "--bad-proof");
-    let formulas = parts(call, "--init-formula", "--step-formula", "--bad-formula");
-    match (proofs, formulas) {
-        (Some(proofs), None) if !is_mixed => check_machine(rt, names, proofs),
-        (None, Some(formulas)) if !is_mixed => write_machine(rt, names, formulas),
-        _ => Err(misused(
-            rt,
-            &ABOUT,
-            "--init-proof, --step-proof and --bad-proof, or --init-formula, --step-formula and --bad-formula",
-        )),
-    }
-}
-
-fn run_stimulus(rt: &HostRuntime, call: &Call<'_>, machine: &str) -> Result<u8, u8> {
-    let is_mixed = OPTIONS.iter().any(|flag| call.has(flag)) || parts_in(call) > 0;
-    match call.value("--stimulus") {
-        Some(stimulus) if !is_mixed => check_stimulus(rt, machine, stimulus),
-        _ => Err(misused(rt, &ABOUT, "safe MACHINE INVARIANT, or --stimulus alone")),
-    }
-}
-
-/// How many options of `safe` stand in the call.
-fn parts_in(call: &Call<'_>) -> usize {
-    PARTS.iter().filter(|flag| call.has(flag)).count()
-}
-
-/// The values of three options, if all stand in the call.
-fn parts<'a>(call: &'a Call<'_>, initial: &str, step: &str, bad: &str) -> Option<PartNames<'a>> {
-    Some(PartNames {
-        initial: call.value(initial)?,
-        step: call.value(step)?,
-        bad: call.value(bad)?,
+    run_program(&rt, &ABOUT, |call| {
+        run(&rt, call, &mut HostNames::new(&rt), &mut io::writer(&rt))
     })
+}
+
+/// Runs a call in a system, with `out` as its standard output.
+fn run<S: OutputSystem, W: Write>(
+    system: &S,
+    call: &Call<'_>,
+    given: &mut S::Names,
+    out: &mut W,
+) -> Result<u8, u8>
+    ensures never { (circuit proof text : List ℕ)
+        → operands_of call.now ≡ codes "never" ∷ circuit ∷ []
+        → is_given (choices_of call.now) (codes "--example") ≡ false
+        → value_given (choices_of call.now) (codes "--proof") ≡ Some proof
+        → S.file_bytes system.now circuit ≡ Some text
+        → result ≡ Ok 0 → IsNeverText text }
+    ensures never_line { (circuit proof : List ℕ)
+        → operands_of call.now ≡ codes "never" ∷ circuit ∷ []
+        → is_given (choices_of call.now) (codes "--example") ≡ false
+        → value_given (choices_of call.now) (codes "--proof") ≡ Some proof
+        → result ≡ Ok 0 → Appends (W.contents out.old) (W.contents out.new) (claim_line claims.Never Verified) }
+    ensures possible { (circuit answer text : List ℕ)
+        → operands_of call.now ≡ codes "never" ∷ circuit ∷ []
+        → is_given (choices_of call.now) (codes "--example") ≡ false
+        → value_given (choices_of call.now) (codes "--answer") ≡ Some answer
+        → S.file_bytes system.now circuit ≡ Some text
+        → result ≡ Ok 0 → IsPossibleText text }
+    ensures possible_lines { (circuit answer text said : List ℕ)
+        → operands_of call.now ≡ codes "never" ∷ circuit ∷ []
+        → is_given (choices_of call.now) (codes "--example") ≡ false
+        → value_given (choices_of call.now) (codes "--answer") ≡ Some answer
+        → S.file_bytes system.now circuit ≡ Some text
+        → S.file_bytes system.now answer ≡ Some said
+        → result ≡ Ok 0 → OfPossible (Some text) (Some said)
+        (λ c lits. WritesPossible lits c Verified (W.contents out.old) (W.contents out.new)) }
+    ensures never_formula { (circuit file text : List ℕ)
+        → operands_of call.now ≡ codes "never" ∷ circuit ∷ []
+        → is_given (choices_of call.now) (codes "--example") ≡ false
+        → value_given (choices_of call.now) (codes "--formula") ≡ Some file
+        → S.file_bytes system.now circuit ≡ Some text
+        → S.unwritten system.now ≡ Some [] → result ≡ Ok 0
+        → NamesFormula (IsNeverFormula (Some text)) (S.place system.now file)
+        (S.renamed given.old) (S.renamed given.new) }
+    ensures same { (circuit other proof text other_text : List ℕ)
+        → operands_of call.now ≡ codes "same" ∷ circuit ∷ other ∷ []
+        → is_given (choices_of call.now) (codes "--example") ≡ false
+        → value_given (choices_of call.now) (codes "--proof") ≡ Some proof
+        → S.file_bytes system.now circuit ≡ Some text
+        → S.file_bytes system.now other ≡ Some other_text
+        → result ≡ Ok 0 → IsSameText text other_text }
+    ensures same_line { (circuit other proof : List ℕ)
+        → operands_of call.now ≡ codes "same" ∷ circuit ∷ other ∷ []
+        → is_given (choices_of call.now) (codes "--example") ≡ false
+        → value_given (choices_of call.now) (codes "--proof") ≡ Some proof
+        → result ≡ Ok 0 → Appends (W.contents out.old) (W.contents out.new) (claim_line claims.Same Verified) }
+    ensures different { (circuit other answer text other_text : List ℕ)
+        → operands_of call.now ≡ codes "same" ∷ circuit ∷ other ∷ []
+        → is_given (choices_of call.now) (codes "--example") ≡ false
+        → value_given (choices_of call.now) (codes "--answer") ≡ Some answer
+        → S.file_bytes system.now circuit ≡ Some text
+        → S.file_bytes system.now other ≡ Some other_text
+        → result ≡ Ok 0 → AreDifferentText text other_text }
+    ensures different_lines { (circuit other answer text other_text said : List ℕ)
+        → operands_of call.now ≡ codes "same" ∷ circuit ∷ other ∷ []
+        → is_given (choices_of call.now) (codes "--example") ≡ false
+        → value_given (choices_of call.now) (codes "--answer") ≡ Some answer
+        → S.file_bytes system.now circuit ≡ Some text
+        → S.file_bytes system.now other ≡ Some other_text
+        → S.file_bytes system.now answer ≡ Some said
+        → result ≡ Ok 0 → OfDifferent (Some text) (Some other_text) (Some said)
+        (λ c d lits. WritesDifferent lits c d Verified (W.contents out.old) (W.contents out.new)) }
+    ensures same_formula { (circuit other file text other_text : List ℕ)
+        → operands_of call.now ≡ codes "same" ∷ circuit ∷ other ∷ []
+        → is_given (choices_of call.now) (codes "--example") ≡ false
+        → value_given (choices_of call.now) (codes "--formula") ≡ Some file
+        → S.file_bytes system.now circuit ≡ Some text
+        → S.file_bytes system.now other ≡ Some other_text
+        → S.unwritten system.now ≡ Some [] → result ≡ Ok 0
+        → NamesFormula (IsSameFormula (Some text) (Some other_text)) (S.place system.now file)
+        (S.renamed given.old) (S.renamed given.new) }
+    ensures safe { (machine invariant proof text : List ℕ)
+        → operands_of call.now ≡ codes "safe" ∷ machine ∷ invariant ∷ []
+        → is_given (choices_of call.now) (codes "--example") ≡ false
+        → value_given (choices_of call.now) (codes "--init-proof") ≡ Some proof
+        → S.file_bytes system.now machine ≡ Some text
+        → result ≡ Ok 0 → IsSafeText text }
+    ensures safe_line { (machine invariant proof : List ℕ)
+        → operands_of call.now ≡ codes "safe" ∷ machine ∷ invariant ∷ []
+        → is_given (choices_of call.now) (codes "--example") ≡ false
+        → value_given (choices_of call.now) (codes "--init-proof") ≡ Some proof
+        → result ≡ Ok 0 → Appends (W.contents out.old) (W.contents out.new) (claim_line claims.Safe Verified) }
+    ensures safe_formulas { (machine invariant initial step bad text other_text : List ℕ)
+        → operands_of call.now ≡ codes "safe" ∷ machine ∷ invariant ∷ []
+        → is_given (choices_of call.now) (codes "--example") ≡ false
+        → value_given (choices_of call.now) (codes "--init-formula") ≡ Some initial
+        → value_given (choices_of call.now) (codes "--step-formula") ≡ Some step
+        → value_given (choices_of call.now) (codes "--bad-formula") ≡ Some bad
+        → S.file_bytes system.now machine ≡ Some text
+        → S.file_bytes system.now invariant ≡ Some other_text
+        → S.unwritten system.now ≡ Some [] → result ≡ Ok 0
+        → NamesFormulas (Some text) (Some other_text) (S.place system.now initial)
+        (S.place system.now step) (S.place system.now bad) (S.renamed given.old) (S.renamed given.new) }
+    ensures reached { (machine text : List ℕ)
+        → operands_of call.now ≡ codes "safe" ∷ machine ∷ []
+        → is_given (choices_of call.now) (codes "--example") ≡ false
+        → S.file_bytes system.now machine ≡ Some text
+        → result ≡ Ok 0 → IsReachedText text }
+    ensures reached_line { (machine : List ℕ)
+        → operands_of call.now ≡ codes "safe" ∷ machine ∷ []
+        → is_given (choices_of call.now) (codes "--example") ≡ false
+        → result ≡ Ok 0 → Appends (W.contents out.old) (W.contents out.new) (reach_line (At 0)) }
+    ensures example { is_given (choices_of call.now) (codes "--example") ≡ true → result ≡ Ok 0
+        → Appends (W.contents out.old) (W.contents out.new) (claim_line claims.Never Verified) }
+    ensures open { result ≡ Ok 3 → Appends (W.contents out.old) (W.contents out.new) open_text }
+    ensures silent { is_given (choices_of call.now) (codes "--example") ≡ false
+        → writes_formula (choices_of call.now) ≡ true → out.new ≡ out.old }
+    ensures kept { writes_formula (choices_of call.now) ≡ false
+        → S.renamed given.new ≡ S.renamed given.old }
+    ensures unnamed { IfErr result (λ status. S.renamed given.new ≡ S.renamed given.old) }
+{
+    if call.has("--example") {
+        return Ok(check_example(system, out));
+    }
+    let claimed = claimed_by(system, call)?;
+    match claimed {
+        Claimed::Never(circuit) => run_of_never(system, call, circuit, given, out),
+        Claimed::Same(pair) => run_of_same(system, call, pair, given, out),
+        Claimed::Safe(names) => run_of_safe(system, call, names, given, out),
+        Claimed::Reached(machine) => run_of_reached(system, call, machine, out),
+    }
 }

@@ -1,0 +1,138 @@
+//! One circuit, in a file.
+ghost use Rattle.std.specs.Prelude.{◌≡◌, ℕ, List, [], Ok, Some, IfErr, IfOk, codes, false, true};
+ghost use Rattle.std.specs.Io.KnownBytes.{Appends};
+ghost use Rattle.circuit_answers.specs.Lines.{open_text};
+ghost use Rattle.circuit_check.specs.Answered.{OfPossible, WritesPossible};
+ghost use Rattle.circuit_check.specs.Claims.{IsNeverFormula, IsNeverText, IsPossibleText};
+ghost use Rattle.circuit_check.specs.Verdicts.{claim_line};
+ghost use Rattle.circuit_check.specs.declared.line.Claim.TheVariants as claims;
+ghost use Rattle.circuit_check_main.specs.Asked.{writes_formula};
+ghost use Rattle.circuit_check_main.specs.Shown.{NamesFormula};
+ghost use Rattle.command.specs.Calls.{choices_of, value_given};
+ghost use Rattle.verdicts.specs.declared.verdict.Verdict.TheVariants.{Verified};
+
+use crate::about::ABOUT;
+use crate::files::open;
+use crate::formulas::{create_formula, name_formula};
+use crate::options::{Files, ONE_FILE, files_of};
+use circuit_check::{ProofFormat, exit_status, run_never, run_possible, write_never};
+use command::{Call, OutputSystem, ReadFile, System, WrittenFiles, misused, say_cause};
+use log::sink::Discard;
+use std::io::Write;
+
+/// Runs a call with one circuit, and returns the exit status. An Err is that of a call that is not
+/// run.
+pub(crate) fn run_of_never<S: OutputSystem, W: Write>(
+    system: &S,
+    call: &Call<'_>,
+    circuit: &str,
+    given: &mut S::Names,
+    out: &mut W,
+) -> Result<u8, u8>
+    ensures never { (proof text : List ℕ)
+        → value_given (choices_of call.now) (codes "--proof") ≡ Some proof
+        → S.file_bytes system.now circuit.now ≡ Some text
+        → result ≡ Ok 0 → IsNeverText text }
+    ensures never_line { (proof : List ℕ)
+        → value_given (choices_of call.now) (codes "--proof") ≡ Some proof
+        → result ≡ Ok 0 → Appends (W.contents out.old) (W.contents out.new) (claim_line claims.Never Verified) }
+    ensures possible { (answer text : List ℕ)
+        → value_given (choices_of call.now) (codes "--answer") ≡ Some answer
+        → S.file_bytes system.now circuit.now ≡ Some text
+        → result ≡ Ok 0 → IsPossibleText text }
+    ensures possible_lines { (answer text said : List ℕ)
+        → value_given (choices_of call.now) (codes "--answer") ≡ Some answer
+        → S.file_bytes system.now circuit.now ≡ Some text
+        → S.file_bytes system.now answer ≡ Some said
+        → result ≡ Ok 0 → OfPossible (Some text) (Some said)
+        (λ c lits. WritesPossible lits c Verified (W.contents out.old) (W.contents out.new)) }
+    ensures formula { (file text : List ℕ)
+        → value_given (choices_of call.now) (codes "--formula") ≡ Some file
+        → S.file_bytes system.now circuit.now ≡ Some text
+        → S.unwritten system.now ≡ Some [] → result ≡ Ok 0
+        → NamesFormula (IsNeverFormula (Some text)) (S.place system.now file)
+        (S.renamed given.old) (S.renamed given.new) }
+    ensures open { result ≡ Ok 3 → Appends (W.contents out.old) (W.contents out.new) open_text }
+    ensures silent { writes_formula (choices_of call.now) ≡ true → out.new ≡ out.old }
+    ensures kept { writes_formula (choices_of call.now) ≡ false
+        → S.renamed given.new ≡ S.renamed given.old }
+    ensures unnamed { IfErr result (λ status. S.renamed given.new ≡ S.renamed given.old) }
+{
+    match files_of(call) {
+        Files::Proof(proof) => prove_never(system, circuit, proof, out),
+        Files::Answer(answer) => answer_never(system, circuit, answer, out),
+        Files::Formula(formula) => formula_of_never(system, circuit, formula, given),
+        _ => Err(misused(system, &ABOUT, ONE_FILE)),
+    }
+}
+
+/// Checks a proof, and returns the exit status. An Err is that of a file that can't be opened.
+fn prove_never<S: System, W: Write>(
+    system: &S,
+    circuit: &str,
+    proof: &str,
+    out: &mut W,
+) -> Result<u8, u8>
+    ensures never { (text : List ℕ) → S.file_bytes system.now circuit.now ≡ Some text
+        → result ≡ Ok 0 → IsNeverText text }
+    ensures line { result ≡ Ok 0
+        → Appends (W.contents out.old) (W.contents out.new) (claim_line claims.Never Verified) }
+    ensures open { result ≡ Ok 3 → Appends (W.contents out.old) (W.contents out.new) open_text }
+{
+    let proof = open(system, proof)?;
+    let circuit = open(system, circuit)?;
+    let outcome = run_never(
+        &Discard,
+        system.alloc(),
+        circuit.file,
+        proof.file,
+        ProofFormat::Told,
+        out,
+    );
+    say_cause(system, &outcome);
+    Ok(exit_status(&outcome))
+}
+
+/// Checks an answer, and returns the exit status. An Err is that of a file that can't be opened.
+fn answer_never<S: System, W: Write>(
+    system: &S,
+    circuit: &str,
+    answer: &str,
+    out: &mut W,
+) -> Result<u8, u8>
+    ensures possible { (text : List ℕ) → S.file_bytes system.now circuit.now ≡ Some text
+        → result ≡ Ok 0 → IsPossibleText text }
+    ensures lines { (text said : List ℕ) → S.file_bytes system.now circuit.now ≡ Some text
+        → S.file_bytes system.now answer.now ≡ Some said
+        → result ≡ Ok 0 → OfPossible (Some text) (Some said)
+        (λ c lits. WritesPossible lits c Verified (W.contents out.old) (W.contents out.new)) }
+    ensures open { result ≡ Ok 3 → Appends (W.contents out.old) (W.contents out.new) open_text }
+{
+    let answer = open(system, answer)?;
+    let circuit = open(system, circuit)?;
+    let outcome = run_possible(system.alloc(), circuit.file, answer.file, out);
+    say_cause(system, &outcome);
+    Ok(exit_status(&outcome))
+}
+
+/// Writes the formula, and returns the exit status. The file has its name once it is whole, and is
+/// not the circuit. An Err is that of a file that can't be opened or written.
+fn formula_of_never<S: OutputSystem>(
+    system: &S,
+    circuit: &str,
+    formula: &str,
+    given: &mut S::Names,
+) -> Result<u8, u8>
+    ensures named { (text : List ℕ) → S.file_bytes system.now circuit.now ≡ Some text
+        → S.unwritten system.now ≡ Some [] → result ≡ Ok 0
+        → NamesFormula (IsNeverFormula (Some text)) (S.place system.now formula.now)
+        (S.renamed given.old) (S.renamed given.new) }
+    ensures zero { IfOk result (λ status. status ≡ 0) }
+    ensures unnamed { IfErr result (λ status. S.renamed given.new ≡ S.renamed given.old) }
+{
+    let circuit = open(system, circuit)?;
+    let mut files = WrittenFiles::new(system);
+    let mut out = create_formula(&mut files, formula, &[ReadFile::of(system, &circuit)])?;
+    let written = write_never(system.alloc(), circuit.file, &mut out);
+    name_formula(system, &files, formula, &written, out, given)
+}

@@ -1,0 +1,76 @@
+//! A machine and a stimulus, in files.
+ghost use Rattle.std.specs.Prelude.{◌≡◌, ℕ, List, Ok, Some, true};
+ghost use Rattle.std.specs.Io.KnownBytes.{Appends};
+ghost use Rattle.circuit_answers.specs.Lines.{open_text};
+ghost use Rattle.circuit_answers.specs.Reached.{reach_line};
+ghost use Rattle.circuit_answers.specs.declared.reach.Reach.TheVariants.{At};
+ghost use Rattle.circuit_check.specs.Claims.{IsReachedText};
+ghost use Rattle.circuit_check_main.specs.Asked.{writes_formula};
+ghost use Rattle.command.specs.Calls.{choices_of};
+
+use crate::about::ABOUT;
+use crate::files::open;
+use crate::options::{Files, files_of};
+use circuit_check::{Reach, exit_status, run_reached};
+use command::{Call, System, misused, say_cause};
+use std::io::{Eprint, Write};
+
+/// Runs a call with a machine alone, and returns the exit status. An Err is that of a call that
+/// can't be run.
+pub(crate) fn run_of_reached<S: System, W: Write>(
+    system: &S,
+    call: &Call<'_>,
+    machine: &str,
+    out: &mut W,
+) -> Result<u8, u8>
+    ensures reached { (text : List ℕ) → S.file_bytes system.now machine.now ≡ Some text
+        → result ≡ Ok 0 → IsReachedText text }
+    ensures line { result ≡ Ok 0
+        → Appends (W.contents out.old) (W.contents out.new) (reach_line (At 0)) }
+    ensures open { result ≡ Ok 3 → Appends (W.contents out.old) (W.contents out.new) open_text }
+    ensures silent { writes_formula (choices_of call.now) ≡ true → out.new ≡ out.old }
+{
+    match files_of(call) {
+        Files::Stimulus(stimulus) => prove_reached(system, machine, stimulus, out),
+        _ => {
+            let why = "safe MACHINE INVARIANT, or --stimulus alone";
+            Err(misused(system, &ABOUT, why))
+        }
+    }
+}
+
+/// Runs a machine by a stimulus, and returns the exit status; standard error says why no bad output
+/// is reached. An Err is that of a file that can't be opened.
+fn prove_reached<S: System, W: Write>(
+    system: &S,
+    machine: &str,
+    stimulus: &str,
+    out: &mut W,
+) -> Result<u8, u8>
+    ensures reached { (text : List ℕ) → S.file_bytes system.now machine.now ≡ Some text
+        → result ≡ Ok 0 → IsReachedText text }
+    ensures line { result ≡ Ok 0
+        → Appends (W.contents out.old) (W.contents out.new) (reach_line (At 0)) }
+    ensures open { result ≡ Ok 3 → Appends (W.contents out.old) (W.contents out.new) open_text }
+{
+    let machine = open(system, machine)?;
+    let stimulus = open(system, stimulus)?;
+    let outcome = run_reached(system.alloc(), machine.file, stimulus.file, out);
+    say_cause(system, &outcome);
+    if let Ok(reach) = &outcome {
+        say_reach(system, *reach);
+    }
+    Ok(exit_status(&outcome))
+}
+
+/// Says why no bad output is reached.
+fn say_reach<R: Eprint>(rt: &R, reach: Reach) {
+    let _ = match reach {
+        Reach::At(_) => Ok(()),
+        Reach::OtherStart(latch) => {
+            eprintln!(rt; "the first value of latch {latch} is not its reset")
+        }
+        Reach::Broken(step) => eprintln!(rt; "a constraint is false at step {step}"),
+        Reach::Nowhere => eprintln!(rt; "no bad output is true at any step"),
+    };
+}

@@ -1,0 +1,140 @@
+//! A machine and an invariant, in files.
+ghost use Rattle.std.specs.Prelude.{◌≡◌, ℕ, List, [], Ok, Some, IfErr, codes, false, true};
+ghost use Rattle.std.specs.Io.KnownBytes.{Appends};
+ghost use Rattle.circuit_answers.specs.Lines.{open_text};
+ghost use Rattle.circuit_check.specs.Claims.{IsSafeText};
+ghost use Rattle.circuit_check.specs.Verdicts.{claim_line};
+ghost use Rattle.circuit_check.specs.declared.line.Claim.TheVariants as claims;
+ghost use Rattle.circuit_check_main.specs.Asked.{writes_formula};
+ghost use Rattle.circuit_check_main.specs.Shown.{NamesFormulas};
+ghost use Rattle.command.specs.Calls.{choices_of, value_given};
+ghost use Rattle.verdicts.specs.declared.verdict.Verdict.TheVariants.{Verified};
+
+use crate::about::ABOUT;
+use crate::files::open;
+use crate::options::{Files, PartNames, files_of};
+use crate::parts::{create_outputs, name_outputs, write_outputs};
+use circuit_check::{PartProofs, ProofFormat, exit_status, run_safe};
+use command::{Call, FAILED, OutputSystem, ReadFile, System, WrittenFiles, misused, say_cause};
+use log::sink::Discard;
+use std::io::Write;
+
+const THREE_FILES: &str =
+    "--init-proof, --step-proof and --bad-proof, or --init-formula, --step-formula and --bad-formula";
+
+/// The files of a machine and an invariant.
+#[derive(Clone, Copy)]
+pub(crate) struct Machine<'a> {
+    pub(crate) machine: &'a str,
+    pub(crate) invariant: &'a str,
+}
+
+/// Runs a call with a machine and an invariant, and returns the exit status. An Err is that of a
+/// call that can't be run.
+pub(crate) fn run_of_safe<S: OutputSystem, W: Write>(
+    system: &S,
+    call: &Call<'_>,
+    names: Machine<'_>,
+    given: &mut S::Names,
+    out: &mut W,
+) -> Result<u8, u8>
+    ensures safe { (proof text : List ℕ)
+        → value_given (choices_of call.now) (codes "--init-proof") ≡ Some proof
+        → S.file_bytes system.now names.entry.machine.now ≡ Some text
+        → result ≡ Ok 0 → IsSafeText text }
+    ensures safe_line { (proof : List ℕ)
+        → value_given (choices_of call.now) (codes "--init-proof") ≡ Some proof
+        → result ≡ Ok 0 → Appends (W.contents out.old) (W.contents out.new) (claim_line claims.Safe Verified) }
+    ensures formulas { (initial step bad text invariant_text : List ℕ)
+        → value_given (choices_of call.now) (codes "--init-formula") ≡ Some initial
+        → value_given (choices_of call.now) (codes "--step-formula") ≡ Some step
+        → value_given (choices_of call.now) (codes "--bad-formula") ≡ Some bad
+        → S.file_bytes system.now names.entry.machine.now ≡ Some text
+        → S.file_bytes system.now names.entry.invariant.now ≡ Some invariant_text
+        → S.unwritten system.now ≡ Some [] → result ≡ Ok 0
+        → NamesFormulas (Some text) (Some invariant_text) (S.place system.now initial)
+        (S.place system.now step) (S.place system.now bad) (S.renamed given.old) (S.renamed given.new) }
+    ensures open { result ≡ Ok 3 → Appends (W.contents out.old) (W.contents out.new) open_text }
+    ensures silent { writes_formula (choices_of call.now) ≡ true → out.new ≡ out.old }
+    ensures kept { writes_formula (choices_of call.now) ≡ false
+        → S.renamed given.new ≡ S.renamed given.old }
+    ensures unnamed { IfErr result (λ status. S.renamed given.new ≡ S.renamed given.old) }
+{
+    match files_of(call) {
+        Files::Proofs(proofs) => prove_safe(system, names, proofs, out),
+        Files::Formulas(formulas) => formulas_of_safe(system, names, formulas, given),
+        _ => Err(misused(system, &ABOUT, THREE_FILES)),
+    }
+}
+
+/// Checks three proofs, and returns the exit status. An Err is that of a file that can't be opened.
+fn prove_safe<S: System, W: Write>(
+    system: &S,
+    names: Machine<'_>,
+    proofs: PartNames<'_>,
+    out: &mut W,
+) -> Result<u8, u8>
+    ensures safe { (text : List ℕ) → S.file_bytes system.now names.entry.machine.now ≡ Some text
+        → result ≡ Ok 0 → IsSafeText text }
+    ensures line { result ≡ Ok 0
+        → Appends (W.contents out.old) (W.contents out.new) (claim_line claims.Safe Verified) }
+    ensures open { result ≡ Ok 3 → Appends (W.contents out.old) (W.contents out.new) open_text }
+{
+    let machine = open(system, names.machine)?;
+    let invariant = open(system, names.invariant)?;
+    let initial = open(system, proofs.initial)?;
+    let step = open(system, proofs.step)?;
+    let bad = open(system, proofs.bad)?;
+    let proofs = PartProofs {
+        initial: initial.file,
+        step: step.file,
+        bad: bad.file,
+    };
+    let outcome = run_safe(
+        &Discard,
+        system.alloc(),
+        machine.file,
+        invariant.file,
+        proofs,
+        ProofFormat::Told,
+        out,
+    );
+    say_cause(system, &outcome);
+    Ok(exit_status(&outcome))
+}
+
+/// Writes the three formulas, and returns the exit status. The files have their names once all are
+/// whole, and are none of those that are read. An Err is that of a file that can't be opened or
+/// written; if one can't be renamed, it is an Ok, as the ones before it have their names.
+fn formulas_of_safe<S: OutputSystem>(
+    system: &S,
+    names: Machine<'_>,
+    formulas: PartNames<'_>,
+    given: &mut S::Names,
+) -> Result<u8, u8>
+    ensures named { (text invariant_text : List ℕ)
+        → S.file_bytes system.now names.entry.machine.now ≡ Some text
+        → S.file_bytes system.now names.entry.invariant.now ≡ Some invariant_text
+        → S.unwritten system.now ≡ Some [] → result ≡ Ok 0
+        → NamesFormulas (Some text) (Some invariant_text)
+        (S.place system.now formulas.entry.initial.now) (S.place system.now formulas.entry.step.now)
+        (S.place system.now formulas.entry.bad.now) (S.renamed given.old) (S.renamed given.new) }
+    ensures unshown { result ≡ Ok 3 → ⊥ }
+    ensures unnamed { IfErr result (λ status. S.renamed given.new ≡ S.renamed given.old) }
+{
+    let machine = open(system, names.machine)?;
+    let invariant = open(system, names.invariant)?;
+    let mut files = WrittenFiles::new(system);
+    let inputs = [
+        ReadFile::of(system, &machine),
+        ReadFile::of(system, &invariant),
+    ];
+    let outputs = create_outputs(&mut files, formulas, &inputs)?;
+    let whole = write_outputs(system, machine, invariant, outputs)?;
+    let named = name_outputs(&files, formulas, whole, given);
+    say_cause(system, &named);
+    match named {
+        Ok(()) => Ok(0),
+        Err(_) => Ok(FAILED),
+    }
+}

@@ -1,0 +1,171 @@
+//! Two circuits, in files.
+ghost use Rattle.std.specs.Prelude.{◌≡◌, ℕ, List, [], Ok, Some, IfErr, IfOk, codes, false, true};
+ghost use Rattle.std.specs.Io.KnownBytes.{Appends};
+ghost use Rattle.circuit_answers.specs.Lines.{open_text};
+ghost use Rattle.circuit_check.specs.Answered.{OfDifferent, WritesDifferent};
+ghost use Rattle.circuit_check.specs.Claims.{AreDifferentText, IsSameFormula, IsSameText};
+ghost use Rattle.circuit_check.specs.Verdicts.{claim_line};
+ghost use Rattle.circuit_check.specs.declared.line.Claim.TheVariants as claims;
+ghost use Rattle.circuit_check_main.specs.Asked.{writes_formula};
+ghost use Rattle.circuit_check_main.specs.Shown.{NamesFormula};
+ghost use Rattle.command.specs.Calls.{choices_of, value_given};
+ghost use Rattle.verdicts.specs.declared.verdict.Verdict.TheVariants.{Verified};
+
+use crate::about::ABOUT;
+use crate::files::open;
+use crate::formulas::{create_formula, name_formula};
+use crate::names::{NameRule, read_named};
+use crate::options::{Files, ONE_FILE, files_of};
+use circuit_check::{ProofFormat, exit_status, run_different, run_same, write_same};
+use command::{Call, OutputSystem, ReadFile, System, WrittenFiles, misused, say_cause};
+use log::sink::Discard;
+use std::io::Write;
+
+/// The files of two circuits, and what is done if names in them differ.
+#[derive(Clone, Copy)]
+pub(crate) struct Pair<'a> {
+    pub(crate) circuit: &'a str,
+    pub(crate) other: &'a str,
+    pub(crate) rule: NameRule,
+}
+
+/// Runs a call with two circuits, and returns the exit status. An Err is that of a call that can't
+/// be run.
+pub(crate) fn run_of_same<S: OutputSystem, W: Write>(
+    system: &S,
+    call: &Call<'_>,
+    pair: Pair<'_>,
+    given: &mut S::Names,
+    out: &mut W,
+) -> Result<u8, u8>
+    ensures same { (proof text other_text : List ℕ)
+        → value_given (choices_of call.now) (codes "--proof") ≡ Some proof
+        → S.file_bytes system.now pair.entry.circuit.now ≡ Some text
+        → S.file_bytes system.now pair.entry.other.now ≡ Some other_text
+        → result ≡ Ok 0 → IsSameText text other_text }
+    ensures same_line { (proof : List ℕ)
+        → value_given (choices_of call.now) (codes "--proof") ≡ Some proof
+        → result ≡ Ok 0 → Appends (W.contents out.old) (W.contents out.new) (claim_line claims.Same Verified) }
+    ensures different { (answer text other_text : List ℕ)
+        → value_given (choices_of call.now) (codes "--answer") ≡ Some answer
+        → S.file_bytes system.now pair.entry.circuit.now ≡ Some text
+        → S.file_bytes system.now pair.entry.other.now ≡ Some other_text
+        → result ≡ Ok 0 → AreDifferentText text other_text }
+    ensures different_lines { (answer text other_text said : List ℕ)
+        → value_given (choices_of call.now) (codes "--answer") ≡ Some answer
+        → S.file_bytes system.now pair.entry.circuit.now ≡ Some text
+        → S.file_bytes system.now pair.entry.other.now ≡ Some other_text
+        → S.file_bytes system.now answer ≡ Some said
+        → result ≡ Ok 0 → OfDifferent (Some text) (Some other_text) (Some said)
+        (λ c d lits. WritesDifferent lits c d Verified (W.contents out.old) (W.contents out.new)) }
+    ensures formula { (file text other_text : List ℕ)
+        → value_given (choices_of call.now) (codes "--formula") ≡ Some file
+        → S.file_bytes system.now pair.entry.circuit.now ≡ Some text
+        → S.file_bytes system.now pair.entry.other.now ≡ Some other_text
+        → S.unwritten system.now ≡ Some [] → result ≡ Ok 0
+        → NamesFormula (IsSameFormula (Some text) (Some other_text)) (S.place system.now file)
+        (S.renamed given.old) (S.renamed given.new) }
+    ensures open { result ≡ Ok 3 → Appends (W.contents out.old) (W.contents out.new) open_text }
+    ensures silent { writes_formula (choices_of call.now) ≡ true → out.new ≡ out.old }
+    ensures kept { writes_formula (choices_of call.now) ≡ false
+        → S.renamed given.new ≡ S.renamed given.old }
+    ensures unnamed { IfErr result (λ status. S.renamed given.new ≡ S.renamed given.old) }
+{
+    match files_of(call) {
+        Files::Proof(proof) => prove_same(system, pair, proof, out),
+        Files::Answer(answer) => answer_same(system, pair, answer, out),
+        Files::Formula(formula) => formula_of_same(system, pair, formula, given),
+        _ => Err(misused(system, &ABOUT, ONE_FILE)),
+    }
+}
+
+/// Checks a proof, and returns the exit status. An Err is that of a file that can't be opened, or
+/// of circuits whose names are not compared, or differ and must not.
+fn prove_same<S: System, W: Write>(
+    system: &S,
+    pair: Pair<'_>,
+    proof: &str,
+    out: &mut W,
+) -> Result<u8, u8>
+    ensures same { (text other_text : List ℕ)
+        → S.file_bytes system.now pair.entry.circuit.now ≡ Some text
+        → S.file_bytes system.now pair.entry.other.now ≡ Some other_text
+        → result ≡ Ok 0 → IsSameText text other_text }
+    ensures line { result ≡ Ok 0
+        → Appends (W.contents out.old) (W.contents out.new) (claim_line claims.Same Verified) }
+    ensures open { result ≡ Ok 3 → Appends (W.contents out.old) (W.contents out.new) open_text }
+{
+    let proof = open(system, proof)?;
+    let circuit = open(system, pair.circuit)?;
+    let other = open(system, pair.other)?;
+    let (circuit, other) = read_named(system, circuit, other, pair.rule)?;
+    let (circuit, other) = (circuit.as_slice(), other.as_slice());
+    let outcome = run_same(
+        &Discard,
+        system.alloc(),
+        circuit,
+        other,
+        proof.file,
+        ProofFormat::Told,
+        out,
+    );
+    say_cause(system, &outcome);
+    Ok(exit_status(&outcome))
+}
+
+/// Checks an answer, and returns the exit status. An Err is as of `prove_same`.
+fn answer_same<S: System, W: Write>(
+    system: &S,
+    pair: Pair<'_>,
+    answer: &str,
+    out: &mut W,
+) -> Result<u8, u8>
+    ensures different { (text other_text : List ℕ)
+        → S.file_bytes system.now pair.entry.circuit.now ≡ Some text
+        → S.file_bytes system.now pair.entry.other.now ≡ Some other_text
+        → result ≡ Ok 0 → AreDifferentText text other_text }
+    ensures lines { (text other_text said : List ℕ)
+        → S.file_bytes system.now pair.entry.circuit.now ≡ Some text
+        → S.file_bytes system.now pair.entry.other.now ≡ Some other_text
+        → S.file_bytes system.now answer.now ≡ Some said
+        → result ≡ Ok 0 → OfDifferent (Some text) (Some other_text) (Some said)
+        (λ c d lits. WritesDifferent lits c d Verified (W.contents out.old) (W.contents out.new)) }
+    ensures open { result ≡ Ok 3 → Appends (W.contents out.old) (W.contents out.new) open_text }
+{
+    let answer = open(system, answer)?;
+    let circuit = open(system, pair.circuit)?;
+    let other = open(system, pair.other)?;
+    let (circuit, other) = read_named(system, circuit, other, pair.rule)?;
+    let (circuit, other) = (circuit.as_slice(), other.as_slice());
+    let outcome = run_different(system.alloc(), circuit, other, answer.file, out);
+    say_cause(system, &outcome);
+    Ok(exit_status(&outcome))
+}
+
+/// Writes the formula, and returns the exit status. The file has its name once it is whole, and is
+/// none of the circuits. An Err is as of `prove_same`, or that of a file that can't be written.
+fn formula_of_same<S: OutputSystem>(
+    system: &S,
+    pair: Pair<'_>,
+    formula: &str,
+    given: &mut S::Names,
+) -> Result<u8, u8>
+    ensures named { (text other_text : List ℕ)
+        → S.file_bytes system.now pair.entry.circuit.now ≡ Some text
+        → S.file_bytes system.now pair.entry.other.now ≡ Some other_text
+        → S.unwritten system.now ≡ Some [] → result ≡ Ok 0
+        → NamesFormula (IsSameFormula (Some text) (Some other_text))
+        (S.place system.now formula.now) (S.renamed given.old) (S.renamed given.new) }
+    ensures zero { IfOk result (λ status. status ≡ 0) }
+    ensures unnamed { IfErr result (λ status. S.renamed given.new ≡ S.renamed given.old) }
+{
+    let circuit = open(system, pair.circuit)?;
+    let other = open(system, pair.other)?;
+    let mut files = WrittenFiles::new(system);
+    let inputs = [ReadFile::of(system, &circuit), ReadFile::of(system, &other)];
+    let mut out = create_formula(&mut files, formula, &inputs)?;
+    let (circuit, other) = read_named(system, circuit, other, pair.rule)?;
+    let (circuit, other) = (circuit.as_slice(), other.as_slice());
+    let written = write_same(system.alloc(), circuit, other, &mut out);
+    name_formula(system, &files, formula, &written, out, given)
+}
