@@ -135,7 +135,7 @@ printf '1 0\n-1\n' > open.txt
 says 2 'open.txt: line 2: not literals up to a 0' cubes names four.cnf open.txt
 says 2 'there is no part 3' cubes check four.cnf two.txt four 3
 says 2 'cannot open none.cnf: No such file or directory' cubes report none.cnf two.txt four
-says 2 'cannot write four/1.receipt: File too large' bash -c 'echo "6 0 5 3 4 0" > four/1.lrat
+says 2 'cannot write four/1.receipt: error writing: File too large (os error 27)' bash -c 'echo "6 0 5 3 4 0" > four/1.lrat
   ulimit -f 0; cubes check four.cnf two.txt four 1; status=$?; ls four/1.receipt* 2> /dev/null; exit "$status"'
 LRAT_CHECK=./none says 2 'cannot run ./none: No such file or directory' cubes check four.cnf two.txt four 2
 echo '6 0 5 3 4 0' > four/1.lrat
@@ -415,6 +415,7 @@ runs 'sh xargs'
 solved 37
 runs 'sh xargs'
 solved 0
+runs 'sh receipts'
 check=(cubes check --whose formula.cnf cubes.txt parts)
 
 # one missing, one cut, two exchanged

@@ -434,7 +434,7 @@ said=$("$check" three piece --holds next --stats 2> err) || true
 # calls that can't be read, and others of the same words
 while IFS=: read -r arguments why; do
   # shellcheck disable=SC2086
-  wants 2 '' "$why"$'\nusage: drat_check CNF PROOF [--drat] [--frat] [--lpr] [--lrat FILE] [--binary] [--trim FILE] [--core FILE] [--holds FILE] [--stats] [--json] [--quiet] [--verbose]\ndrat_check --help says more' $arguments
+  wants 2 '' "$why"$'\nusage: drat_check CNF PROOF [--drat] [--frat] [--lpr] [--lrat FILE] [--binary] [--trim FILE] [--core FILE] [--holds FILE] [--receipt FILE] [--stats] [--json] [--quiet] [--verbose]\ndrat_check --help says more' $arguments
 done << 'END'
 :no file is named for CNF
 f:no file is named for PROOF
@@ -453,6 +453,7 @@ f p --holds:--holds needs a value
 f p --trim l --holds three:--holds excludes --trim
 f p --holds three --core c --lrat l:with --holds, --lrat and --core exclude each other
 f p --holds three --core c --trim l:--holds excludes --trim
+f p --holds three --core c --receipt r:with --holds, --core and --receipt exclude each other
 f p --example:--example takes no other argument
 --example --drat:--example takes no other argument
 -- --drat:no file is named for PROOF

@@ -369,12 +369,12 @@ misspelled malformed_formula malformed.cnf 'formula: line 2: bad number' x malfo
 refused folder / 'formula: error reading formula: Is a directory (os error 21)' / par10.lrat
 refused folder_as_proof / 'proof: error reading proof: Is a directory (os error 21)' four.cnf /
 refused unreadable_proof /proc/self/mem 'proof: error reading proof: Input/output error (os error 5)' four.cnf /proc/self/mem
-misused no_arguments 'no file is named for CNF' 'lrat_check CNF LRAT [--ids WAY] [--holds FILE] [--stats] [--json] [--quiet] [--verbose]'
+misused no_arguments 'no file is named for CNF' 'lrat_check CNF LRAT [--ids WAY] [--holds FILE] [--receipt FILE] [--stats] [--json] [--quiet] [--verbose]'
 expect example 0 's VERIFIED UNSAT' '' --example
 expect version 0 'lrat_check 0.3.0 (varisat-checker 0.2.2)' '' --version
-misused one_argument 'no file is named for LRAT' 'lrat_check CNF LRAT [--ids WAY] [--holds FILE] [--stats] [--json] [--quiet] [--verbose]' four.cnf
-misused three_arguments 'unexpected argument: more.lrat' 'lrat_check CNF LRAT [--ids WAY] [--holds FILE] [--stats] [--json] [--quiet] [--verbose]' four.cnf par10.lrat more.lrat
-misused other_ids '--ids takes plain or doubled' 'lrat_check CNF LRAT [--ids WAY] [--holds FILE] [--stats] [--json] [--quiet] [--verbose]' --ids odd four.cnf par10.lrat
+misused one_argument 'no file is named for LRAT' 'lrat_check CNF LRAT [--ids WAY] [--holds FILE] [--receipt FILE] [--stats] [--json] [--quiet] [--verbose]' four.cnf
+misused three_arguments 'unexpected argument: more.lrat' 'lrat_check CNF LRAT [--ids WAY] [--holds FILE] [--receipt FILE] [--stats] [--json] [--quiet] [--verbose]' four.cnf par10.lrat more.lrat
+misused other_ids '--ids takes plain or doubled' 'lrat_check CNF LRAT [--ids WAY] [--holds FILE] [--receipt FILE] [--stats] [--json] [--quiet] [--verbose]' --ids odd four.cnf par10.lrat
 expect missing_formula 2 '' $'cannot open absent.cnf\nNo such file or directory (os error 2)' absent.cnf absent.lrat
 expect missing_proof 2 '' $'cannot open absent.lrat\nNo such file or directory (os error 2)' malformed.cnf absent.lrat
 run_cases lrat_check_main

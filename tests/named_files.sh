@@ -338,7 +338,7 @@ wants 1 '' $'formula: line 1: unterminated clause\nin wrong' "$lrat_check" wrong
 # a word that is no text
 for word in $'f\xff' $'\xc3'; do
   shown=$(printf '%s' "$word" | sed 's/\xff/\\xff/;s/\xc3/\\xc3/')
-  wants 2 '' "word 2 of the call is not UTF-8: $shown"$'\ninvalid data\nusage: lrat_check CNF LRAT [--ids WAY] [--holds FILE] [--stats] [--json] [--quiet] [--verbose]\nlrat_check --help says more' \
+  wants 2 '' "word 2 of the call is not UTF-8: $shown"$'\ninvalid data\nusage: lrat_check CNF LRAT [--ids WAY] [--holds FILE] [--receipt FILE] [--stats] [--json] [--quiet] [--verbose]\nlrat_check --help says more' \
     "$lrat_check" l "$word"
 done
 

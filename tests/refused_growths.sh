@@ -70,7 +70,7 @@ stopped() {
   elif ((status == 2)); then
     unread=$((unread + 1))
   else
-    ((status == 1)) && grep -qE '^((Error in proof processor|formula|proof|answer|claims|models|circuit|second circuit|stimulus|error writing): )?out of memory$' "$work/err"
+    ((status == 1)) && grep -qE '^((Error in proof processor|formula|wanted clauses|proof|answer|claims|models|circuit|second circuit|stimulus|error writing): )?out of memory$' "$work/err"
   fi
 }
 
@@ -133,6 +133,35 @@ run_unmet() {
   echo "an answer that is not met $mode: $((number - 1)) runs, of which $unread met the reading of the arguments"
 }
 
+# run_kept NAME MODE LINE RECEIPT COMMAND..: a run that is to keep a receipt. Where a growth is refused, it says so and leaves no file, also behind its
+# line, where the receipt alone is missing.
+run_kept() {
+  local name=$1 mode=$2 line=$3 receipt=$4 number unread=0 late=0
+  shift 4
+  for ((number = 1; ; number++)); do
+    rm -f "$work"/kept*
+    refuse "$mode" "$number" "$@" --receipt "$work/kept"
+    if ((refused == 0)); then
+      break
+    elif [[ ! -s $work/err || $(compgen -G "$work/kept*") ]]; then
+      misjudged "$name $mode=$number: $(compgen -G "$work/kept*")"
+    elif [[ $status == 1 && $(cat "$work/out") == "$line" && $(cat "$work/err") == 'error writing: out of memory' ]]; then
+      late=$((late + 1))
+    elif ! stopped; then
+      misjudged "$name $mode=$number"
+    fi
+  done
+  if [[ $status != 0 || $(cat "$work/out") != "$line" || $(cat "$work/kept"*) != "$receipt" || $late == 0 ]]; then
+    misjudged "$name without a refused growth, with $late runs that miss the receipt alone"
+  fi
+  echo "$name $mode: $((number - 1)) runs, of which $unread met the reading of the arguments and $late the receipt"
+}
+
+# sum FILE: as a receipt has it
+sum() {
+  echo "sha256 $(sha256sum < "$1" | cut -d ' ' -f 1)"
+}
+
 "$rows" > "$work/all" || { cat "$work/all"; exit 1; }
 # the added clauses of the LRAT proof alone
 sed '/ d /d;s/^[0-9]* //;s/^0 .*/0/;s/ 0 .*/ 0/' "$data/par10.lrat" > "$work/drat"
@@ -161,6 +190,11 @@ printf 'p cnf 2 4\n1 2 0\n1 -2 0\n-1 2 0\n-1 -2 0\n' > "$work/four"
 printf 'p cnf 2 2\n1 0\n2 0\n' > "$work/claims"
 printf '1 0\n0\n' > "$work/refuted"
 printf -- '-1 -2 0\n-1 2 0\n1 -2 0\n1 2 0\n' > "$work/models"
+# a piece of a proof of the four clauses, and what holds behind it
+printf '5 1 0 1 2 0\n' > "$work/piece.lrat"
+printf '1 0\n' > "$work/piece"
+printf '1 0\n-1 2 0\n' > "$work/next"
+printf '1 2 0\n1 -2 0\n-1 2 0\n' > "$work/satisfiable"
 # two inputs, and for each the conjunction of it with its negation; two circuits of one gate
 printf 'aig 4 2 0 2 2\n6\n8\n\3\1\3\1' > "$work/never.aig"
 printf -- '-4 0\n0\n' > "$work/never"
@@ -196,6 +230,14 @@ for mode in FAIL_AT FAIL_FROM; do
   run 'four clauses by lrat_to_proof' "$mode" '' "$lrat_to_proof" "$work"/small.{cnf,lrat} "$work/bytes"
   run 'an answer to three clauses' "$mode" 's VERIFIED SAT' "$model_check" "$work"/three.{cnf,answer}
   run_unmet "$mode" "$work"/three.{cnf,unmet} 'line 4: clause 3'
+  # and a receipt
+  run_kept 'a receipt by lrat_check' "$mode" 's VERIFIED UNSAT' "refuted $(sum "$work/small.cnf")" "$lrat_check" "$work"/small.{cnf,lrat}
+  run_kept 'a receipt by drat_check' "$mode" 's VERIFIED UNSAT' "refuted $(sum "$work/four")" "$drat_check" "$work"/{four,refuted}
+  run_kept 'a receipt by model_check' "$mode" 's VERIFIED SAT' "satisfied $(sum "$work/three.cnf")" "$model_check" "$work"/three.{cnf,answer}
+  run_kept 'a receipt of a piece by lrat_check' "$mode" 's VERIFIED PIECE' "carries $(sum "$work/four") $(sum "$work/next")" \
+    "$lrat_check" "$work"/{four,piece.lrat} --holds "$work/next"
+  run_kept 'a receipt of a piece by drat_check' "$mode" 's VERIFIED PIECE' "carries $(sum "$work/satisfiable") $(sum "$work/next")" \
+    "$drat_check" "$work"/{satisfiable,piece} --holds "$work/next"
   run 'claims' "$mode" 's VERIFIED FOLLOWS' "$follows" "$work"/{four,claims,refuted}
   run 'a formula for the solver' "$mode" '' "$follows" "$work"/{four,claims} --formula "$work/hints"
   run 'a core' "$mode" 's VERIFIED MINIMAL' "$minimal" "$work"/{four,refuted,models}

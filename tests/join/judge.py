@@ -206,9 +206,9 @@ def malformed(tries):
 
 
 def recipe(tries):
-    """The command of docs/SCALE.md, over receipts in files."""
+    """The command of docs/SCALE.md that joins, the last of its block, over receipts in files."""
     page = (Path(__file__).parents[2] / "docs" / "SCALE.md").read_text()
-    command = re.search("^```sh receipts\n(.*?)^```$", page, re.MULTILINE | re.DOTALL).group(1)
+    command = re.search("^```sh receipts\n(.*?)^```$", page, re.MULTILINE | re.DOTALL).group(1).splitlines()[-1]
     formula, cubes = [[1, 2], [1, -2], [-1, 2], [-1, -2]], [[1], [-1]]
     (tries.folder / "parts").mkdir()
     (tries.folder / "bin").mkdir()

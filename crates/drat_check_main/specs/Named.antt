@@ -4,6 +4,7 @@
 --     GivesAll      three outputs got their names
 --     NamesProof      the outputs of a run that refutes a formula have their names
 --     NamesPiece      those of a run over a piece that derives its target clauses
+--     ThenReceipt      and then a receipt has its name
 use Rattle.std.specs.Prelude.{◌≡◌, ℕ, if◌then◌else◌, List, Option, None, codes, true}
 use Rattle.command.specs.Calls.{Choice, is_given, value_given}
 use Rattle.command.specs.Outputs.{begun, place_of, Gives}
@@ -11,6 +12,8 @@ use Rattle.drat_check.specs.Outputs.{WroteCore, WroteProof}
 use Rattle.drat_check.specs.PieceCores.{CoreShown}
 use Rattle.drat_check.specs.Pieces.{WritesShown}
 use Rattle.piece_runs.specs.Texts.{OfFormulas}
+use Rattle.receipt_files.specs.Named.{GivesReceipt}
+use Rattle.receipts.specs.declared.receipt.Receipt.{Receipt}
 use Rattle.sat_output.specs.declared.form.LineForm.{LineForm}
 use Rattle.sat_output.specs.declared.form.LineForm.TheVariants.{Binary, Text}
 use Rattle.verdicts.specs.Pieces.{shows_wanted}
@@ -59,3 +62,10 @@ module _ (place : List ℕ → Option (List ℕ)) (options : List Choice) where
     pub used : OfFormulas cnf holds (λ formula wanted.
         CoreShown formula wanted (begun (core_name options)) core verdict)
     pub named : GivesAll lrat None core old new
+
+  -- of the files that were named before the receipt this holds
+  pub record ThenReceipt (receipt : Receipt) (P : Option (List (List ℕ × List ℕ)) → Type 0)
+      (new : Option (List (List ℕ × List ℕ))) : Type 0 where
+    pub outputs : Option (List (List ℕ × List ℕ))
+    pub named : P outputs
+    pub receipt_named : GivesReceipt place options receipt outputs new

@@ -1,9 +1,10 @@
 //! What the program says of itself.
 use command::{About, CNF, EXAMPLE, Entry, JSON, QUIET, RUST_LOG, STATS, VERBOSE};
+use receipt_files::RECEIPT;
 
 /// What `--help` says.
 pub const ABOUT: About<'static> = About {
-    call: "drat_check CNF PROOF [--drat] [--frat] [--lpr] [--lrat FILE] [--binary] [--trim FILE] [--core FILE] [--holds FILE] [--stats] [--json] [--quiet] [--verbose]",
+    call: "drat_check CNF PROOF [--drat] [--frat] [--lpr] [--lrat FILE] [--binary] [--trim FILE] [--core FILE] [--holds FILE] [--receipt FILE] [--stats] [--json] [--quiet] [--verbose]",
     does: "Check a DRAT, DPR, FRAT or LPR proof, text or binary, against a formula, and print the verdict.",
     operands: &[
         CNF,
@@ -45,6 +46,7 @@ pub const ABOUT: About<'static> = About {
             name: "--holds FILE",
             text: "check a piece of a proof: it must derive the clauses of FILE; the verdict is s VERIFIED PIECE",
         },
+        RECEIPT,
         STATS,
         JSON,
         QUIET,

@@ -1,32 +1,34 @@
 //! A whole proof, in a file.
-ghost use Rattle.std.specs.Prelude.{◌≡◌, ℕ, List, [], Ok, Some, IfErr, IfOk, OnOk, IsErr};
+ghost use Rattle.std.specs.Prelude.{◌≡◌, ℕ, List, [], Ok, Some, IfErr, IfOk, IsErr};
 ghost use Rattle.std.specs.Io.KnownBytes.{Appends};
 ghost use Rattle.std.specs.Io.Buffered.{writer_contents};
 ghost use Rattle.command.specs.Calls.{choices_of};
 ghost use Rattle.command.specs.Inputs.{bytes_named};
-ghost use Rattle.command.specs.Outputs.{begun};
+ghost use Rattle.command.specs.Outputs.{begun, written_in};
 ghost use Rattle.drat_check.specs.Outputs.{bytes_in};
-ghost use Rattle.drat_check_main.specs.Named.{GivesAll, NamesProof, core_name, lrat_name, trim_name};
+ghost use Rattle.drat_check_main.specs.Named.{GivesAll, NamesProof, ThenReceipt, core_name, lrat_name, trim_name};
 ghost use Rattle.piece_runs.specs.Texts.{OfFormula};
+ghost use Rattle.receipt_files.specs.Named.{IsDigestOf, receipt_name, refuted_of};
 ghost use Rattle.sat_formula.specs.Refuted.{IsRefuted};
 ghost use Rattle.verdicts.specs.Verdicts.{shown_line};
-ghost use Rattle.verdicts.specs.declared.verdict.Verdict.TheVariants.{Verified};
+ghost use Rattle.verdicts.specs.declared.verdict.Verdict.TheVariants.{NotVerified, Verified};
 
 use crate::about::ABOUT;
 use crate::fault::{place_of, say_stats, unread_formula};
 use crate::outputs::{Finished, create_outputs, name_outputs};
 use command::{
     Call, Cost, FaultPlace, InputNames, NOT_RUN, OutputSystem, ReadFile, StatsForm, WrittenFiles,
-    hold_file, open_inputs, progress_of, say_fault, warn_of_header,
+    open_inputs, progress_of, say_fault, warn_of_header,
 };
 use drat_check::{ProofFormat, RunFault, exit_status, run_check};
+use receipt_files::{hold_digested, keep_refuted};
 use std::io;
-use std::io::Write;
+use std::io::{BufWriter, Write};
 use verdicts::{Verdict, write_line};
 
 /// Checks a proof. The files that are written are made once both others are open, and before
-/// anything is read. They have their names before the verdict's line is written. The formula is
-/// read whole, and let go once its clauses are taken.
+/// anything is read. They have their names before the verdict's line is written, and a receipt
+/// after it. The formula is read whole, and let go once its clauses are taken.
 pub(crate) fn check_files<S: OutputSystem, W: Write>(
     system: &S,
     names: InputNames<'_>,
@@ -43,8 +45,9 @@ pub(crate) fn check_files<S: OutputSystem, W: Write>(
     ensures outputs { (text : List ℕ)
         → bytes_named (S.file_bytes system.now) (S.input_bytes system.now) names.entry.cnf.now ≡ Some text
         → S.unwritten system.now ≡ Some [] → result ≡ Ok 0
-        → OfFormula (Some text) (NamesProof (S.place system.now) (choices_of call.now)
-        (S.renamed given.old) (S.renamed given.new)) }
+        → ThenReceipt (S.place system.now) (choices_of call.now) (refuted_of text)
+        (λ named. OfFormula (Some text) (NamesProof (S.place system.now) (choices_of call.now)
+        (S.renamed given.old) named)) (S.renamed given.new) }
     ensures empty { S.unwritten system.now ≡ Some [] → result ≡ Ok 3
         → GivesAll (S.place system.now) (choices_of call.now)
         (begun (lrat_name (choices_of call.now))) (begun (trim_name (choices_of call.now)))
@@ -56,12 +59,15 @@ pub(crate) fn check_files<S: OutputSystem, W: Write>(
     let mut files = WrittenFiles::new(system);
     let inputs = [ReadFile::of(system, &cnf), ReadFile::of(system, &proof)];
     let mut outputs = create_outputs(&mut files, call, &inputs)?;
-    let cnf = hold_file(
+    let receipt = files.create_wanted(call.value("--receipt"), &inputs)?;
+    let unread = FaultPlace::Formula(None);
+    let cnf = hold_digested(
         system,
         names,
         cnf,
-        FaultPlace::Formula(None),
+        unread,
         unread_formula,
+        receipt.is_some(),
     )?;
     let progress = &progress_of(system, &ABOUT, call);
     let proof = proof.told(system, progress);
@@ -69,7 +75,7 @@ pub(crate) fn check_files<S: OutputSystem, W: Write>(
     let checked = run_check(
         progress,
         system.alloc(),
-        cnf,
+        cnf.held,
         proof,
         format,
         &mut outputs,
@@ -81,8 +87,11 @@ pub(crate) fn check_files<S: OutputSystem, W: Write>(
         lrat: outputs.lrat,
         trim: outputs.trim,
         core: outputs.core,
+        receipt,
     };
-    let outcome = show(&files, call, finished, checked, given, out);
+    let outcome = show(
+        system, &files, call, finished, cnf.digest, checked, given, out,
+    );
     if let Err(fault) = &outcome {
         say_fault(system, names, fault, place_of(fault, format, call));
     }
@@ -95,16 +104,19 @@ pub(crate) fn check_files<S: OutputSystem, W: Write>(
     Ok(exit_status(&outcome))
 }
 
-/// Gives the outputs of a run that has a verdict their names, and then writes the verdict's line.
+/// Gives the outputs of a run that has a verdict their names, then writes the verdict's line, and
+/// then keeps the receipt, of a formula of this digest.
 ///
 /// # Errors
 ///
 /// That of the run, after which nothing has its name and nothing is written; or `Write` with the
 /// rename or the write that failed.
 fn show<S: OutputSystem, W: Write>(
+    system: &S,
     files: &WrittenFiles<'_, S>,
     call: &Call<'_>,
     outputs: Finished<S::Output>,
+    digest: Option<[u8; 32]>,
     checked: Result<Verdict, RunFault>,
     given: &mut S::Names,
     out: &mut W,
@@ -112,11 +124,20 @@ fn show<S: OutputSystem, W: Write>(
     ensures verdict { IfOk result (λ verdict. checked ≡ Ok verdict) }
     ensures line { IfOk result (λ verdict.
         Appends (W.contents out.old) (W.contents out.new) (shown_line verdict)) }
-    ensures named { OnOk result (GivesAll
+    ensures named { result ≡ Ok NotVerified → GivesAll
         (S.place files.now.system.now) (choices_of call.now)
         (bytes_in (writer_contents S.Output.contents) outputs.lrat)
         (bytes_in (writer_contents S.Output.contents) outputs.trim)
-        (bytes_in (writer_contents S.Output.contents) outputs.core) (S.renamed given.old) (S.renamed given.new)) }
+        (bytes_in (writer_contents S.Output.contents) outputs.core) (S.renamed given.old) (S.renamed given.new) }
+    ensures receipt { (text : List ℕ) → IsDigestOf digest text
+        → written_in S.Output.contents outputs.receipt ≡ begun (receipt_name (choices_of call.now))
+        → result ≡ Ok Verified
+        → ThenReceipt (S.place files.now.system.now) (choices_of call.now) (refuted_of text)
+        (GivesAll (S.place files.now.system.now) (choices_of call.now)
+        (bytes_in (writer_contents S.Output.contents) outputs.lrat)
+        (bytes_in (writer_contents S.Output.contents) outputs.trim)
+        (bytes_in (writer_contents S.Output.contents) outputs.core) (S.renamed given.old))
+        (S.renamed given.new) }
     ensures unnamed { IsErr checked → S.renamed given.new ≡ S.renamed given.old }
     ensures silent { IsErr checked → out.new ≡ out.old }
 {
@@ -124,11 +145,15 @@ fn show<S: OutputSystem, W: Write>(
         Ok(verdict) => verdict,
         Err(fault) => return Err(fault),
     };
-    match name_outputs(files, call, outputs, given) {
+    let receipt = match name_outputs(files, call, outputs, given) {
+        Ok(receipt) => receipt,
+        Err(fault) => return Err(RunFault::Write(fault)),
+    };
+    match write_line(out, verdict) {
         Ok(()) => {}
         Err(fault) => return Err(RunFault::Write(fault)),
     }
-    match write_line(out, verdict) {
+    match keep_refuted(system.alloc(), files, call, receipt, digest, verdict, given) {
         Ok(()) => Ok(verdict),
         Err(fault) => Err(RunFault::Write(fault)),
     }

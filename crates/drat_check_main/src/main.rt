@@ -1,15 +1,16 @@
 //! The command `drat_check CNF PROOF [--drat] [--frat] [--lpr] [--lrat FILE] [--binary]
-//! [--trim FILE] [--core FILE] [--holds FILE]`: checks a DRAT, DPR, FRAT or LPR proof against a
-//! formula, and says in one line what it shows.
+//! [--trim FILE] [--core FILE] [--holds FILE] [--receipt FILE]`: checks a DRAT, DPR, FRAT or LPR
+//! proof against a formula, and says in one line what it shows.
 //!
 //! Which of them the proof is, is detected from its first bytes, or given by `--drat`, `--frat` or
 //! `--lpr`. With `--lrat` the lines that the checker of LRAT proofs accepted are written to a file,
 //! with `--binary` in the binary form, with `--trim` the steps of DRAT that they are, and with
 //! `--core` the clauses of the formula that they use. With `--holds` the proof is one piece of a
-//! proof, which must derive the target clauses of a file. `--example` checks a small fixed example,
-//! `--help` says how the program is called, and `--version` of which version it is. The name `-` of
-//! a file that is read stands for standard input. What `RUST_LOG` asks for, as `RUST_LOG=info`, is
-//! logged to standard error; else nothing is.
+//! proof, which must derive the target clauses of a file. With `--receipt` a file gets a receipt of
+//! what was shown. `--example` checks a small fixed example, `--help` says how the program is
+//! called, and `--version` of which version it is. The name `-` of a file that is read stands for
+//! standard input. What `RUST_LOG` asks for, as `RUST_LOG=info`, is logged to standard error; else
+//! nothing is.
 #![tactic(auto)]
 
 ghost use Rattle.std.specs.Prelude.{◌≡◌, ℕ, List, [], ◌∷◌, None, Ok, Some, codes, false, IfErr};
@@ -17,9 +18,10 @@ ghost use Rattle.std.specs.Io.KnownBytes.{Appends};
 ghost use Rattle.command.specs.Calls.{choices_of, is_given, operands_of, value_given};
 ghost use Rattle.command.specs.Inputs.{bytes_named};
 ghost use Rattle.command.specs.Outputs.{begun};
-ghost use Rattle.drat_check_main.specs.Named.{GivesAll, NamesPiece, NamesProof, core_name, lrat_name, trim_name};
-ghost use Rattle.drat_check_main.specs.Pieces.{ShowsPiece};
+ghost use Rattle.drat_check_main.specs.Named.{GivesAll, NamesPiece, NamesProof, ThenReceipt, core_name, lrat_name, trim_name};
+ghost use Rattle.drat_check_main.specs.Pieces.{KeepsPiece, ShowsPiece};
 ghost use Rattle.piece_runs.specs.Texts.{OfFormula};
+ghost use Rattle.receipt_files.specs.Named.{refuted_of};
 ghost use Rattle.sat_formula.specs.Refuted.{IsRefuted};
 ghost use Rattle.verdicts.specs.Verdicts.{shown_line};
 ghost use Rattle.verdicts.specs.declared.verdict.Verdict.TheVariants.{Verified};
@@ -68,8 +70,9 @@ fn run<S: OutputSystem, W: Write>(
         → value_given (choices_of call.now) (codes "--holds") ≡ None
         → bytes_named (S.file_bytes system.now) (S.input_bytes system.now) cnf ≡ Some text
         → S.unwritten system.now ≡ Some [] → result ≡ Ok 0
-        → OfFormula (Some text) (NamesProof (S.place system.now) (choices_of call.now)
-        (S.renamed given.old) (S.renamed given.new)) }
+        → ThenReceipt (S.place system.now) (choices_of call.now) (refuted_of text)
+        (λ named. OfFormula (Some text) (NamesProof (S.place system.now) (choices_of call.now)
+        (S.renamed given.old) named)) (S.renamed given.new) }
     ensures empty { (cnf proof : List ℕ)
         → operands_of call.now ≡ cnf ∷ proof ∷ []
         → is_given (choices_of call.now) (codes "--example") ≡ false
@@ -92,8 +95,9 @@ fn run<S: OutputSystem, W: Write>(
         → bytes_named (S.file_bytes system.now) (S.input_bytes system.now) cnf ≡ Some text
         → S.file_bytes system.now holds ≡ Some wanted
         → S.unwritten system.now ≡ Some [] → result ≡ Ok 0
-        → NamesPiece (S.place system.now) (choices_of call.now) (Some text) (Some wanted)
-        (S.renamed given.old) (S.renamed given.new) }
+        → KeepsPiece (S.place system.now) (choices_of call.now) text wanted
+        (W.contents out.old) (W.contents out.new) (NamesPiece (S.place system.now) (choices_of call.now)
+        (Some text) (Some wanted) (S.renamed given.old)) (S.renamed given.new) }
     ensures unnamed { IfErr result (λ status. S.renamed given.new ≡ S.renamed given.old) }
 {
     if call.has("--example") {
@@ -131,6 +135,10 @@ fn format_of<S: OutputSystem>(system: &S, call: &Call<'_>) -> Result<ProofFormat
     }
     if call.has("--holds") && call.has("--lrat") && call.has("--core") {
         let why = "with --holds, --lrat and --core exclude each other";
+        return Err(misused(system, &ABOUT, why));
+    }
+    if call.has("--holds") && call.has("--core") && call.has("--receipt") {
+        let why = "with --holds, --core and --receipt exclude each other";
         return Err(misused(system, &ABOUT, why));
     }
     Ok(format)

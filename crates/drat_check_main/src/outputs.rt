@@ -58,15 +58,18 @@ fn form_of(call: &Call<'_>) -> LineForm
     }
 }
 
-/// The writers of a run's outputs, which are whole.
+/// The writers of a run's outputs, which are whole, except the receipt.
 #[derive(Drop)]
 pub(crate) struct Finished<F: io::Write + Drop> {
     pub(crate) lrat: Option<BufWriter<F>>,
     pub(crate) trim: Option<BufWriter<F>>,
     pub(crate) core: Option<BufWriter<F>>,
+    /// The file of the receipt, which is still empty.
+    pub(crate) receipt: Option<BufWriter<F>>,
 }
 
-/// Gives the outputs of a run their names. All are whole.
+/// Gives the outputs of a run their names. All are whole. Returns the file of the receipt, which is
+/// not.
 ///
 /// # Errors
 ///
@@ -77,8 +80,9 @@ pub(crate) fn name_outputs<S: OutputSystem>(
     call: &Call<'_>,
     outputs: Finished<S::Output>,
     given: &mut S::Names,
-) -> io::Result<()>
-    ensures { OnOk result (GivesAll
+) -> io::Result<Option<BufWriter<S::Output>>>
+    ensures receipt { IfOk result (λ receipt. receipt ≡ outputs.receipt) }
+    ensures named { OnOk result (GivesAll
         (S.place files.now.system.now) (choices_of call.now)
         (bytes_in (writer_contents S.Output.contents) outputs.lrat)
         (bytes_in (writer_contents S.Output.contents) outputs.trim)
@@ -86,5 +90,6 @@ pub(crate) fn name_outputs<S: OutputSystem>(
 {
     files.name_wanted(given, call.value("--lrat"), outputs.lrat)?;
     files.name_wanted(given, call.value("--trim"), outputs.trim)?;
-    files.name_wanted(given, call.value("--core"), outputs.core)
+    files.name_wanted(given, call.value("--core"), outputs.core)?;
+    Ok(outputs.receipt)
 }

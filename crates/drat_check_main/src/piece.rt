@@ -1,22 +1,26 @@
 //! A piece of a proof, which must derive the target clauses of a file.
-ghost use Rattle.std.specs.Prelude.{◌≡◌, ℕ, List, [], None, Ok, Some, IfErr, IfOk, IsErr, OnOk};
+ghost use Rattle.std.specs.Prelude.{◌≡◌, ℕ, List, [], None, Ok, Some, IfErr, IfOk, IsErr};
 ghost use Rattle.std.specs.Io.KnownBytes.{Appends};
 ghost use Rattle.std.specs.Io.Buffered.{writer_contents};
 ghost use Rattle.command.specs.Calls.{choices_of};
 ghost use Rattle.command.specs.Inputs.{bytes_named};
+ghost use Rattle.command.specs.Outputs.{begun, written_in};
 ghost use Rattle.drat_check.specs.Outputs.{bytes_in};
-ghost use Rattle.drat_check_main.specs.Named.{GivesAll, NamesPiece};
-ghost use Rattle.drat_check_main.specs.Pieces.{ShowsPiece};
+ghost use Rattle.drat_check_main.specs.Named.{GivesAll, NamesPiece, ThenReceipt};
+ghost use Rattle.drat_check_main.specs.Pieces.{KeepsPiece, ShowsPiece};
+ghost use Rattle.receipt_files.specs.Named.{IsDigestOf, carries_of, receipt_name, refuted_of};
 ghost use Rattle.verdicts.specs.Pieces.{piece_line};
+ghost use Rattle.verdicts.specs.declared.piece.PieceVerdict.TheVariants.{Carried, NotCarried, Refuted};
 
 use crate::about::ABOUT;
 use crate::fault::{is_unread, place_in_piece, say_stats, unread_formula, unread_wanted};
 use crate::outputs::{Finished, create_outputs, name_outputs};
 use command::{
     Call, Cost, FaultPlace, InputNames, NOT_RUN, OutputSystem, ReadFile, StatsForm, WrittenFiles,
-    hold_file, open_file, open_inputs, progress_of, say_fault, say_missing, warn_of_header,
+    open_file, open_inputs, progress_of, say_fault, say_missing, warn_of_header,
 };
 use drat_check::{PieceFault, PieceOutputs, ProofFormat, RunFault, exit_status, run_piece};
+use receipt_files::{hold_digested, keep_piece};
 use std::io;
 use std::io::Write;
 use verdicts::{PieceVerdict, write_piece_line};
@@ -40,8 +44,9 @@ pub(crate) fn check_piece<'a, S: OutputSystem, W: Write>(
         → bytes_named (S.file_bytes system.now) (S.input_bytes system.now) names.entry.cnf.now ≡ Some text
         → S.file_bytes system.now holds_name.now ≡ Some wanted
         → S.unwritten system.now ≡ Some [] → result ≡ Ok 0
-        → NamesPiece (S.place system.now) (choices_of call.now) (Some text) (Some wanted)
-        (S.renamed given.old) (S.renamed given.new) }
+        → KeepsPiece (S.place system.now) (choices_of call.now) text wanted
+        (W.contents out.old) (W.contents out.new) (NamesPiece (S.place system.now) (choices_of call.now)
+        (Some text) (Some wanted) (S.renamed given.old)) (S.renamed given.new) }
     ensures unnamed { IfErr result (λ status. S.renamed given.new ≡ S.renamed given.old) }
 {
     let cost = Cost::from_now(system);
@@ -56,6 +61,7 @@ pub(crate) fn check_piece<'a, S: OutputSystem, W: Write>(
     // A device, as /dev/null, may be both read and written.
     let count = if holds.length(system).is_some() { 3 } else { 2 };
     let made = create_outputs(&mut files, call, &inputs[..count])?;
+    let receipt = files.create_wanted(call.value("--receipt"), &inputs[..count])?;
     let mut outputs = PieceOutputs {
         lrat: made.lrat,
         form: made.form,
@@ -65,22 +71,19 @@ pub(crate) fn check_piece<'a, S: OutputSystem, W: Write>(
         lie: None,
         wanted_lie: None,
     };
-    let cnf = hold_file(
-        system,
-        names,
-        cnf,
-        FaultPlace::Formula(None),
-        unread_formula,
-    )?;
-    let wanted = FaultPlace::Wanted(holds_name, None);
-    let holds = hold_file(system, names, holds, wanted, unread_wanted)?;
+    let is_kept = receipt.is_some();
+    let unread = FaultPlace::Formula(None);
+    let cnf = hold_digested(system, names, cnf, unread, unread_formula, is_kept)?;
+    let unread = FaultPlace::Wanted(holds_name, None);
+    let holds = hold_digested(system, names, holds, unread, unread_wanted, is_kept)?;
+    let digests = (cnf.digest, holds.digest);
     let progress = &progress_of(system, &ABOUT, call);
     let piece = piece.told(system, progress);
     let checked = run_piece(
         progress,
         system.alloc(),
-        cnf,
-        holds,
+        cnf.held,
+        holds.held,
         piece,
         format,
         &mut outputs,
@@ -91,8 +94,9 @@ pub(crate) fn check_piece<'a, S: OutputSystem, W: Write>(
         lrat: outputs.lrat,
         trim: None,
         core: outputs.core,
+        receipt,
     };
-    let outcome = show_piece(&files, call, finished, checked, given, out);
+    let outcome = show_piece(system, &files, call, finished, digests, checked, given, out);
     if let Err(fault) = &outcome {
         let place = place_in_piece(fault, format, holds_name, call);
         say_fault(system, names, fault, place);
@@ -108,16 +112,19 @@ pub(crate) fn check_piece<'a, S: OutputSystem, W: Write>(
     Ok(exit_status(&outcome))
 }
 
-/// Gives the outputs of a run that has a verdict their names, and then writes the verdict's line.
+/// Gives the outputs of a run that has a verdict their names, then writes the verdict's line, and
+/// then keeps the receipt, of formulas of these digests.
 ///
 /// # Errors
 ///
 /// That of the run, after which nothing has its name and nothing is written; or `Write` with the
 /// rename or the write that failed.
 fn show_piece<S: OutputSystem, W: Write>(
+    system: &S,
     files: &WrittenFiles<'_, S>,
     call: &Call<'_>,
     outputs: Finished<S::Output>,
+    digests: (Option<[u8; 32]>, Option<[u8; 32]>),
     checked: Result<PieceVerdict, PieceFault>,
     given: &mut S::Names,
     out: &mut W,
@@ -125,11 +132,29 @@ fn show_piece<S: OutputSystem, W: Write>(
     ensures verdict { IfOk result (λ verdict. checked ≡ Ok verdict) }
     ensures line { IfOk result (λ verdict.
         Appends (W.contents out.old) (W.contents out.new) (piece_line verdict)) }
-    ensures named { OnOk result (GivesAll
+    ensures carried { (text next : List ℕ) → IsDigestOf digests.0 text → IsDigestOf digests.1 next
+        → written_in S.Output.contents outputs.receipt ≡ begun (receipt_name (choices_of call.now))
+        → result ≡ Ok Carried
+        → ThenReceipt (S.place files.now.system.now) (choices_of call.now) (carries_of text next)
+        (GivesAll (S.place files.now.system.now) (choices_of call.now)
+        (bytes_in (writer_contents S.Output.contents) outputs.lrat)
+        (bytes_in (writer_contents S.Output.contents) outputs.trim)
+        (bytes_in (writer_contents S.Output.contents) outputs.core) (S.renamed given.old))
+        (S.renamed given.new) }
+    ensures refuted { (text : List ℕ) → IsDigestOf digests.0 text
+        → written_in S.Output.contents outputs.receipt ≡ begun (receipt_name (choices_of call.now))
+        → result ≡ Ok Refuted
+        → ThenReceipt (S.place files.now.system.now) (choices_of call.now) (refuted_of text)
+        (GivesAll (S.place files.now.system.now) (choices_of call.now)
+        (bytes_in (writer_contents S.Output.contents) outputs.lrat)
+        (bytes_in (writer_contents S.Output.contents) outputs.trim)
+        (bytes_in (writer_contents S.Output.contents) outputs.core) (S.renamed given.old))
+        (S.renamed given.new) }
+    ensures unshown { result ≡ Ok NotCarried → GivesAll
         (S.place files.now.system.now) (choices_of call.now)
         (bytes_in (writer_contents S.Output.contents) outputs.lrat)
         (bytes_in (writer_contents S.Output.contents) outputs.trim)
-        (bytes_in (writer_contents S.Output.contents) outputs.core) (S.renamed given.old) (S.renamed given.new)) }
+        (bytes_in (writer_contents S.Output.contents) outputs.core) (S.renamed given.old) (S.renamed given.new) }
     ensures unnamed { IsErr checked → S.renamed given.new ≡ S.renamed given.old }
     ensures silent { IsErr checked → out.new ≡ out.old }
 {
@@ -137,11 +162,23 @@ fn show_piece<S: OutputSystem, W: Write>(
         Ok(verdict) => verdict,
         Err(fault) => return Err(fault),
     };
-    match name_outputs(files, call, outputs, given) {
+    let receipt = match name_outputs(files, call, outputs, given) {
+        Ok(receipt) => receipt,
+        Err(fault) => return Err(PieceFault::Run(RunFault::Write(fault))),
+    };
+    match write_piece_line(out, verdict) {
         Ok(()) => {}
         Err(fault) => return Err(PieceFault::Run(RunFault::Write(fault))),
     }
-    match write_piece_line(out, verdict) {
+    match keep_piece(
+        system.alloc(),
+        files,
+        call,
+        receipt,
+        digests,
+        verdict,
+        given,
+    ) {
         Ok(()) => Ok(verdict),
         Err(fault) => Err(PieceFault::Run(RunFault::Write(fault))),
     }

@@ -1,7 +1,11 @@
 -- What a piece's run that ends well has shown of two texts, by the line that an output grew by.
+--     ShowsPiece text wanted old new      what the line says is so
+--     KeepsPiece      and the receipt that says it has its name
 use Rattle.std.specs.Prelude.{ℕ, ◌⊎◌, List, Option}
 use Rattle.std.specs.Io.KnownBytes.{Appends}
+use Rattle.command.specs.Calls.{Choice}
 use Rattle.piece_runs.specs.Texts.{CarriesText}
+use Rattle.receipt_files.specs.Named.{GivesReceipt, carries_of, refuted_of}
 use Rattle.sat_formula.specs.Refuted.{IsRefuted}
 use Rattle.verdicts.specs.Pieces.{piece_line}
 use Rattle.verdicts.specs.declared.piece.PieceVerdict.TheVariants.{Carried, Refuted}
@@ -11,3 +15,13 @@ abbrev pub ShowsPiece : List ℕ → List ℕ → Option (List ℕ) → Option (
 ShowsPiece text wanted old new =
     (Appends old new (piece_line Carried) × CarriesText text wanted)
     ⊎ (Appends old new (piece_line Refuted) × IsRefuted text)
+
+-- the same, and of these two the receipt that says it was named, where the call asks for one
+abbrev pub KeepsPiece : (List ℕ → Option (List ℕ)) → List Choice → List ℕ → List ℕ
+    → Option (List ℕ) → Option (List ℕ)
+    → Option (List (List ℕ × List ℕ)) → Option (List (List ℕ × List ℕ)) → Type 0
+KeepsPiece place options text wanted old new given given' =
+    (Appends old new (piece_line Carried) × CarriesText text wanted
+    × GivesReceipt place options (carries_of text wanted) given given')
+    ⊎ (Appends old new (piece_line Refuted) × IsRefuted text
+    × GivesReceipt place options (refuted_of text) given given')

@@ -1,5 +1,6 @@
 //! What the program says of itself.
 use command::{About, CNF, EXAMPLE, Entry, IDS, JSON, QUIET, RUST_LOG, STATS, VERBOSE};
+use receipt_files::RECEIPT;
 
 const HOLDS: Entry<'static> = Entry {
     name: "--holds FILE",
@@ -8,7 +9,7 @@ const HOLDS: Entry<'static> = Entry {
 
 /// What `--help` says.
 pub const ABOUT: About<'static> = About {
-    call: "lrat_check CNF LRAT [--ids WAY] [--holds FILE] [--stats] [--json] [--quiet] [--verbose]",
+    call: "lrat_check CNF LRAT [--ids WAY] [--holds FILE] [--receipt FILE] [--stats] [--json] [--quiet] [--verbose]",
     does: "Check an LRAT proof against a formula, and print the verdict.",
     operands: &[
         CNF,
@@ -17,7 +18,7 @@ pub const ABOUT: About<'static> = About {
             text: "the proof, LRAT, text or binary; - is standard input",
         },
     ],
-    options: &[IDS, HOLDS, STATS, JSON, QUIET, VERBOSE, EXAMPLE],
+    options: &[IDS, HOLDS, RECEIPT, STATS, JSON, QUIET, VERBOSE, EXAMPLE],
     verified: "s VERIFIED UNSAT: no assignment satisfies the formula",
     open: "s NOT VERIFIED: the proof ends without the empty clause",
     environment: &[RUST_LOG],

@@ -1,28 +1,34 @@
 //! A whole proof, in a file.
-ghost use Rattle.std.specs.Prelude.{◌≡◌, ℕ, List, Ok, Some};
+ghost use Rattle.std.specs.Prelude.{◌≡◌, ◌≢◌, ℕ, List, [], IfOk, Ok, Some};
 ghost use Rattle.std.specs.Io.KnownBytes.{Appends};
+ghost use Rattle.command.specs.Calls.{choices_of};
 ghost use Rattle.command.specs.Inputs.{bytes_named};
+ghost use Rattle.command.specs.Outputs.{begun, written_in};
+ghost use Rattle.receipt_files.specs.Named.{GivesReceipt, IsDigestOf, receipt_name, refuted_of};
 ghost use Rattle.sat_formula.specs.Refuted.{IsRefuted};
 ghost use Rattle.verdicts.specs.Verdicts.{shown_line};
 ghost use Rattle.verdicts.specs.declared.verdict.Verdict.TheVariants.{Verified};
 
 use crate::about::ABOUT;
 use command::{
-    Call, Cost, FaultPlace, InputNames, StatsForm, System, open_and_hold, progress_of, say_fault,
-    warn_of_header,
+    Call, Cost, FaultPlace, InputNames, NOT_RUN, OutputSystem, ReadFile, StatsForm, WrittenFiles,
+    open_inputs, progress_of, say_fault, warn_of_header,
 };
-use lrat_check::{Ids, RunFault, exit_status, run_check};
+use lrat_check::{Ids, RunFault, Verdict, exit_status, run_check};
+use receipt_files::{hold_digested, keep_refuted};
 use sat_formula::DimacsFault;
 use std::io;
-use std::io::Write;
+use std::io::{BufWriter, Write};
 
-/// Checks a proof. Both files are opened before anything is read. The formula is read whole, and
-/// let go once its clauses are taken. Returns the exit status.
-pub(crate) fn check_files<S: System, W: Write>(
+/// Checks a proof. All files are open before anything is read. The formula is read whole, and let
+/// go once its clauses are taken. A receipt gets its name once the verdict's line is written.
+/// Returns the exit status.
+pub(crate) fn check_files<S: OutputSystem, W: Write>(
     system: &S,
     names: InputNames<'_>,
     ids: Option<Ids>,
     call: &Call<'_>,
+    given: &mut S::Names,
     out: &mut W,
 ) -> Result<u8, u8>
     ensures refutes { (text : List ℕ)
@@ -30,13 +36,32 @@ pub(crate) fn check_files<S: System, W: Write>(
         → result ≡ Ok 0 → IsRefuted text }
     ensures line { result ≡ Ok 0
         → Appends (W.contents out.old) (W.contents out.new) (shown_line Verified) }
+    ensures receipt { (text : List ℕ)
+        → bytes_named (S.file_bytes system.now) (S.input_bytes system.now) names.entry.cnf.now ≡ Some text
+        → S.unwritten system.now ≡ Some [] → result ≡ Ok 0
+        → GivesReceipt (S.place system.now) (choices_of call.now) (refuted_of text)
+        (S.renamed given.old) (S.renamed given.new) }
+    ensures unnamed { result ≢ Ok 0 → S.renamed given.new ≡ S.renamed given.old }
 {
     let cost = Cost::from_now(system);
-    let (cnf, proof) = open_and_hold(system, names, unread_formula)?;
+    let (cnf, proof) = open_inputs(system, names.cnf, names.other).ok_or(NOT_RUN)?;
+    let mut files = WrittenFiles::new(system);
+    let inputs = [ReadFile::of(system, &cnf), ReadFile::of(system, &proof)];
+    let receipt = files.create_wanted(call.value("--receipt"), &inputs)?;
+    let unread = FaultPlace::Formula(None);
+    let cnf = hold_digested(
+        system,
+        names,
+        cnf,
+        unread,
+        unread_formula,
+        receipt.is_some(),
+    )?;
     let progress = progress_of(system, &ABOUT, call);
     let proof = proof.told(system, &progress);
     let mut lie = None;
-    let outcome = run_check(system.alloc(), cnf, proof, ids, out, &mut lie);
+    let checked = run_check(system.alloc(), cnf.held, proof, ids, out, &mut lie);
+    let outcome = keep(system, &files, call, receipt, cnf.digest, checked, given);
     if let Err(fault) = &outcome {
         say_fault(system, names, fault, place_of(fault));
     }
@@ -47,6 +72,38 @@ pub(crate) fn check_files<S: System, W: Write>(
         cost.say(system, form, &[]);
     }
     Ok(exit_status(&outcome))
+}
+
+/// Keeps the receipt of a run that was written to the end, if it is wanted.
+///
+/// # Errors
+///
+/// That of the run, or `Write` with the write or the rename that failed.
+fn keep<S: OutputSystem>(
+    system: &S,
+    files: &WrittenFiles<'_, S>,
+    call: &Call<'_>,
+    receipt: Option<BufWriter<S::Output>>,
+    digest: Option<[u8; 32]>,
+    checked: Result<Verdict, RunFault>,
+    given: &mut S::Names,
+) -> Result<Verdict, RunFault>
+    ensures verdict { IfOk result (λ verdict. checked ≡ Ok verdict) }
+    ensures named { (text : List ℕ) → IsDigestOf digest text
+        → written_in S.Output.contents receipt ≡ begun (receipt_name (choices_of call.now))
+        → result ≡ Ok Verified
+        → GivesReceipt (S.place files.now.system.now) (choices_of call.now) (refuted_of text)
+        (S.renamed given.old) (S.renamed given.new) }
+    ensures unnamed { result ≢ Ok Verified → S.renamed given.new ≡ S.renamed given.old }
+{
+    let verdict = match checked {
+        Ok(verdict) => verdict,
+        Err(fault) => return Err(fault),
+    };
+    match keep_refuted(system.alloc(), files, call, receipt, digest, verdict, given) {
+        Ok(()) => Ok(verdict),
+        Err(fault) => Err(RunFault::Write(fault)),
+    }
 }
 
 pub(crate) fn unread_formula(fault: io::Error) -> RunFault {

@@ -1,16 +1,18 @@
-//! The command `lrat_check CNF LRAT [--ids WAY] [--holds FILE]`: checks an LRAT proof against a
-//! formula, and prints the verdict.
+//! The command `lrat_check CNF LRAT [--ids WAY] [--holds FILE] [--receipt FILE]`: checks an LRAT
+//! proof against a formula, and prints the verdict.
 //!
-//! With `--holds` the proof is one piece of a proof, and a file has its target clauses.
+//! With `--holds` the proof is one piece of a proof, and a file has its target clauses. With
+//! `--receipt` a file gets a receipt of what was shown.
 //! `--example` checks a small fixed example. The name `-` is standard input.
 //! What `RUST_LOG` asks for, as `RUST_LOG=info`, is logged to standard error; else nothing is.
 #![tactic(auto)]
 
-ghost use Rattle.std.specs.Prelude.{◌≡◌, ℕ, List, [], ◌∷◌, None, Ok, Some, codes, false};
+ghost use Rattle.std.specs.Prelude.{◌≡◌, ◌≢◌, ℕ, List, [], ◌∷◌, None, Ok, Some, codes, false};
 ghost use Rattle.std.specs.Io.KnownBytes.{Appends};
 ghost use Rattle.command.specs.Calls.{choices_of, is_given, operands_of, value_given};
 ghost use Rattle.command.specs.Inputs.{bytes_named};
-ghost use Rattle.lrat_check_main.specs.Pieces.{ShowsPiece};
+ghost use Rattle.lrat_check_main.specs.Pieces.{KeepsPiece, ShowsPiece};
+ghost use Rattle.receipt_files.specs.Named.{GivesReceipt, refuted_of};
 ghost use Rattle.sat_formula.specs.Refuted.{IsRefuted};
 ghost use Rattle.verdicts.specs.Verdicts.{shown_line};
 ghost use Rattle.verdicts.specs.declared.verdict.Verdict.TheVariants.{Verified};
@@ -23,7 +25,8 @@ use crate::about::ABOUT;
 use crate::files::check_files;
 use crate::piece::check_piece;
 use command::{
-    Call, EXAMPLE_FORMULA, EXAMPLE_LRAT, System, ids_of, input_names, run_program, say_cause,
+    Call, EXAMPLE_FORMULA, EXAMPLE_LRAT, HostNames, OutputSystem, System, ids_of, input_names,
+    run_program, say_cause,
 };
 use lrat_check::{Ids, exit_status, run_check};
 use std::io;
@@ -31,11 +34,18 @@ use std::io::Write;
 use std::process::ExitCode;
 
 fn main(rt: HostRuntime) -> ExitCode {
-    run_program(&rt, &ABOUT, |call| run(&rt, call, &mut io::writer(&rt)))
+    run_program(&rt, &ABOUT, |call| {
+        run(&rt, call, &mut HostNames::new(&rt), &mut io::writer(&rt))
+    })
 }
 
 /// Runs a call in a system, with `out` as its standard output.
-fn run<S: System, W: Write>(system: &S, call: &Call<'_>, out: &mut W) -> Result<u8, u8>
+fn run<S: OutputSystem, W: Write>(
+    system: &S,
+    call: &Call<'_>,
+    given: &mut S::Names,
+    out: &mut W,
+) -> Result<u8, u8>
     ensures refutes { (cnf proof text : List ℕ)
         → operands_of call.now ≡ cnf ∷ proof ∷ []
         → is_given (choices_of call.now) (codes "--example") ≡ false
@@ -51,6 +61,24 @@ fn run<S: System, W: Write>(system: &S, call: &Call<'_>, out: &mut W) -> Result<
         → bytes_named (S.file_bytes system.now) (S.input_bytes system.now) cnf ≡ Some text
         → S.file_bytes system.now holds ≡ Some wanted
         → result ≡ Ok 0 → ShowsPiece text wanted (W.contents out.old) (W.contents out.new) }
+    ensures receipt { (cnf proof text : List ℕ)
+        → operands_of call.now ≡ cnf ∷ proof ∷ []
+        → is_given (choices_of call.now) (codes "--example") ≡ false
+        → value_given (choices_of call.now) (codes "--holds") ≡ None
+        → bytes_named (S.file_bytes system.now) (S.input_bytes system.now) cnf ≡ Some text
+        → S.unwritten system.now ≡ Some [] → result ≡ Ok 0
+        → GivesReceipt (S.place system.now) (choices_of call.now) (refuted_of text)
+        (S.renamed given.old) (S.renamed given.new) }
+    ensures piece_receipt { (cnf proof holds text wanted : List ℕ)
+        → operands_of call.now ≡ cnf ∷ proof ∷ []
+        → is_given (choices_of call.now) (codes "--example") ≡ false
+        → value_given (choices_of call.now) (codes "--holds") ≡ Some holds
+        → bytes_named (S.file_bytes system.now) (S.input_bytes system.now) cnf ≡ Some text
+        → S.file_bytes system.now holds ≡ Some wanted
+        → S.unwritten system.now ≡ Some [] → result ≡ Ok 0
+        → KeepsPiece (S.place system.now) (choices_of call.now) text wanted
+        (W.contents out.old) (W.contents out.new) (S.renamed given.old) (S.renamed given.new) }
+    ensures unnamed { result ≢ Ok 0 → S.renamed given.new ≡ S.renamed given.old }
 {
     let ids = ids_of(system, &ABOUT, call, Ids::Plain, Ids::Doubled)?;
     if call.has("--example") {
@@ -58,8 +86,8 @@ fn run<S: System, W: Write>(system: &S, call: &Call<'_>, out: &mut W) -> Result<
     }
     let names = input_names(system, &ABOUT, call)?;
     match call.value("--holds") {
-        Some(holds) => check_piece(system, names, holds, ids, call, out),
-        None => check_files(system, names, ids, call, out),
+        Some(holds) => check_piece(system, names, holds, ids, call, given, out),
+        None => check_files(system, names, ids, call, given, out),
     }
 }
 

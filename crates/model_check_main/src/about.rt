@@ -1,9 +1,10 @@
 //! What the program says of itself.
 use command::{About, CNF, EXAMPLE, Entry};
+use receipt_files::RECEIPT;
 
 /// What `--help` says.
 pub const ABOUT: About<'static> = About {
-    call: "model_check CNF ANSWER",
+    call: "model_check CNF ANSWER [--receipt FILE]",
     does: "Check that a solver's answer satisfies a formula, and print the verdict.",
     operands: &[
         CNF,
@@ -12,7 +13,7 @@ pub const ABOUT: About<'static> = About {
             text: "the answer, as solvers print it, or numbers up to a 0; - is standard input",
         },
     ],
-    options: &[EXAMPLE],
+    options: &[RECEIPT, EXAMPLE],
     verified: "s VERIFIED SAT: each assignment that agrees with the answer satisfies the formula",
     open: "s NOT VERIFIED: a clause has no literal of the answer; its number is on standard error",
     environment: &[],

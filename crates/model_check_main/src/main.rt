@@ -1,23 +1,27 @@
-//! The command `model_check CNF ANSWER`: checks that the literals of a solver's answer satisfy a
-//! formula, and prints the verdict.
+//! The command `model_check CNF ANSWER [--receipt FILE]`: checks that the literals of a solver's
+//! answer satisfy a formula, and prints the verdict.
 //!
-//! `--example` checks a small fixed example. The name `-` is standard input.
+//! With `--receipt` a file gets a receipt of what was shown. `--example` checks a small fixed
+//! example. The name `-` is standard input.
 #![tactic(auto)]
 
-ghost use Rattle.std.specs.Prelude.{◌≡◌, ℕ, List, [], ◌∷◌, Ok, Some, codes, false};
+ghost use Rattle.std.specs.Prelude.{◌≡◌, ◌≢◌, ℕ, List, [], ◌∷◌, Ok, Some, codes, false};
 ghost use Rattle.std.specs.Io.KnownBytes.{Appends};
 ghost use Rattle.command.specs.Calls.{choices_of, is_given, operands_of};
 ghost use Rattle.command.specs.Inputs.{bytes_named};
 ghost use Rattle.model_check.specs.Models.{IsSatisfiedBy};
 ghost use Rattle.model_check.specs.Verdicts.{shown_line};
 ghost use Rattle.model_check.specs.declared.verdict.Verdict.TheVariants.{Verified};
+ghost use Rattle.receipt_files.specs.Named.{GivesReceipt, satisfied_of};
 
 mod about;
 mod files;
+#[cfg(test)]
+mod tests;
 
 use crate::about::ABOUT;
 use crate::files::check_files;
-use command::{Call, System, input_names, run_program, say_cause};
+use command::{Call, HostNames, OutputSystem, System, input_names, run_program, say_cause};
 use model_check::{exit_status, run_check};
 use std::io;
 use std::io::Write;
@@ -30,11 +34,18 @@ const EXAMPLE_FORMULA: &[u8] = b"p cnf 3 3\n1 2 0\n-1 3 0\n-2 -3 0\n";
 const EXAMPLE_ANSWER: &[u8] = b"s SATISFIABLE\nv 1 -2 3 0\n";
 
 fn main(rt: HostRuntime) -> ExitCode {
-    run_program(&rt, &ABOUT, |call| run(&rt, call, &mut io::writer(&rt)))
+    run_program(&rt, &ABOUT, |call| {
+        run(&rt, call, &mut HostNames::new(&rt), &mut io::writer(&rt))
+    })
 }
 
 /// Runs a call in a system. The verdict's line is written to `out`, and so is that of the example.
-fn run<S: System, W: Write>(system: &S, call: &Call<'_>, out: &mut W) -> Result<u8, u8>
+fn run<S: OutputSystem, W: Write>(
+    system: &S,
+    call: &Call<'_>,
+    given: &mut S::Names,
+    out: &mut W,
+) -> Result<u8, u8>
     ensures satisfies { (cnf answer text said : List ℕ)
         → operands_of call.now ≡ cnf ∷ answer ∷ []
         → is_given (choices_of call.now) (codes "--example") ≡ false
@@ -43,11 +54,20 @@ fn run<S: System, W: Write>(system: &S, call: &Call<'_>, out: &mut W) -> Result<
         → result ≡ Ok 0 → IsSatisfiedBy text said }
     ensures line { result ≡ Ok 0
         → Appends (W.contents out.old) (W.contents out.new) (shown_line Verified) }
+    ensures receipt { (cnf answer text : List ℕ)
+        → operands_of call.now ≡ cnf ∷ answer ∷ []
+        → is_given (choices_of call.now) (codes "--example") ≡ false
+        → bytes_named (S.file_bytes system.now) (S.input_bytes system.now) cnf ≡ Some text
+        → S.unwritten system.now ≡ Some [] → result ≡ Ok 0
+        → GivesReceipt (S.place system.now) (choices_of call.now) (satisfied_of text)
+        (S.renamed given.old) (S.renamed given.new) }
+    ensures unnamed { result ≢ Ok 0 → S.renamed given.new ≡ S.renamed given.old }
 {
     if call.has("--example") {
         return Ok(check_example(system, out));
     }
-    check_files(system, input_names(system, &ABOUT, call)?, out)
+    let names = input_names(system, &ABOUT, call)?;
+    check_files(system, names, call, given, out)
 }
 
 fn check_example<S: System, W: Write>(system: &S, out: &mut W) -> u8

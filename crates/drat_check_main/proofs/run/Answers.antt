@@ -1,4 +1,4 @@
-use Rattle.std.proofs.Common.{◌≡◌, ℕ, List, Some}
+use Rattle.std.proofs.Common.{◌≡◌, Some}
 use Rattle.command.specs.Inputs.{bytes_named}
 use Rattle.drat_check_main.proofs.run.Goals as goal
 

@@ -1,4 +1,4 @@
-use Rattle.std.proofs.Common.{◌≡◌, ℕ, List, Some}
+use Rattle.std.proofs.Common.{◌≡◌, Some}
 use Rattle.command.specs.Inputs.{bytes_named}
 use Rattle.lrat_check_main.proofs.run.Goals as goal
 
@@ -12,4 +12,23 @@ returns-in-Some-clause-piece g c cnf proof holds text wanted operands alone said
     let formula : bytes_named (g.S.System.file_bytes c.args.system.now)
     (g.S.System.input_bytes c.args.system.now) c.in_ok-names.names.cnf.now ≡ Some text = cc in
     let target : g.S.System.file_bytes c.args.system.now c.in-Some.holds.now ≡ Some wanted = cc in
-    c.check_piece.ensures text wanted formula target well
+    c.check_piece.ensures.shows text wanted formula target well
+
+pub returns-in-Some-clause-piece_receipt : goal.returns-in-Some-clause-piece_receipt
+returns-in-Some-clause-piece_receipt g c cnf proof holds text wanted operands alone said known other fresh well =
+    let names = c.in_ok-names.ensures.ok in
+    let first : cnf ≡ c.in_ok-names.names.cnf.now = cc in
+    let value = c.in-Some.ensures in
+    let third : holds ≡ c.in-Some.holds.now = cc in
+    let formula : bytes_named (g.S.System.file_bytes c.args.system.now)
+    (g.S.System.input_bytes c.args.system.now) c.in_ok-names.names.cnf.now ≡ Some text = cc in
+    let target : g.S.System.file_bytes c.args.system.now c.in-Some.holds.now ≡ Some wanted = cc in
+    c.check_piece.ensures.receipt text wanted formula target fresh well
+
+pub returns-in-None-clause-receipt : goal.returns-in-None-clause-receipt
+returns-in-None-clause-receipt g c cnf proof text operands alone none known fresh well =
+    let names = c.in_ok-names.ensures.ok in
+    let first : cnf ≡ c.in_ok-names.names.cnf.now = cc in
+    let formula : bytes_named (g.S.System.file_bytes c.args.system.now)
+    (g.S.System.input_bytes c.args.system.now) c.in_ok-names.names.cnf.now ≡ Some text = cc in
+    c.check_files.ensures.receipt text formula fresh well

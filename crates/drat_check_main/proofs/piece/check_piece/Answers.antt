@@ -1,12 +1,18 @@
-use Rattle.std.proofs.Common.{◌≡◌, ◌∙◌, [], arith, Some}
+use Rattle.std.proofs.Common.{◌≡◌, ◌∙◌, ℕ, List, [], arith, Option, None, Some}
 use Rattle.std.proofs.lemmas.Grind.{common_steps}
+use Rattle.std.specs.Io.Buffered.{writer_contents}
+use Rattle.command.specs.Calls.{choices_of}
 use Rattle.command.specs.Held.{held_in}
-use Rattle.drat_check_main.proofs.Naming.{names_piece, status_wanted, zero_from}
+use Rattle.command.specs.Outputs.{begun, written_in}
+use Rattle.drat_check.specs.Outputs.{bytes_in}
+use Rattle.drat_check_main.specs.Named.{GivesAll, NamesPiece}
+use Rattle.drat_check_main.proofs.Naming.{keeps_piece, names_piece, status_wanted, zero_from}
 use Rattle.drat_check_main.proofs.piece.check_piece.Goals as goal
+use Rattle.receipt_files.specs.Named.{IsDigestOf, receipt_name}
 use Rattle.verdicts.specs.Pieces.{shows_wanted}
 use Rattle.verdicts.specs.Statuses.{status_of}
 
--- the outputs are those of the only verdicts with this status
+-- the outputs are those of the only verdicts with this status, and so is the receipt
 pub returns-clause-outputs : goal.returns-clause-outputs
 returns-clause-outputs g c text wanted known other fresh well =
     let status = c.exit_status.ensures in
@@ -14,12 +20,41 @@ returns-clause-outputs g c text wanted known other fresh well =
     let shown = status_wanted c.show_piece-outcome.result zero in
     let checked = rw shown.is at c.show_piece-outcome.ensures.verdict in
     let first = c.new-files.ensures.system in
-    let same = c.create_outputs.ensures.system ∙ first in
+    let second = c.create_outputs.ensures.system ∙ first in
+    let same = c.create_wanted.ensures.system ∙ second in
     let unwritten : g.S.OutputSystem.unwritten c.new-files.result.system.now ≡ Some [] = rw first fresh in
-    let gives = rw same at (rw shown.is at c.show_piece-outcome.ensures.named) in
-    let formula : Some (held_in c.in_ok-cnf-2.cnf) ≡ Some text = grind (arith, common_steps) in
-    let target : Some (held_in c.in_ok-holds-2.holds) ≡ Some wanted = grind (arith, common_steps) in
-    rw (← formula, ← target) (names_piece c.in_ok-made.made.core _ _ c.in_ok-made.made.form _ _ _ _ _ _ _ _ _ _ c.run_piece-checked.result
+    let later : g.S.OutputSystem.unwritten c.create_outputs.new.files.system.now ≡ Some [] = rw second fresh in
+    let formula : Some (held_in c.in_ok-cnf-2.cnf.held) ≡ Some text = grind (arith, common_steps) in
+    let target : Some (held_in c.in_ok-holds-2.holds.held) ≡ Some wanted = grind (arith, common_steps) in
+    let is : held_in c.in_ok-cnf-2.cnf.held ≡ text = cc in
+    let next : held_in c.in_ok-holds-2.holds.held ≡ wanted = cc in
+    let taken : IsDigestOf c.in_ok-cnf-2.cnf.digest text = rw is at c.in_ok-cnf-2.ensures.digest in
+    let taken_next : IsDigestOf c.in_ok-holds-2.holds.digest wanted = rw next at c.in_ok-holds-2.ensures.digest in
+    let value = c.value.ensures in
+    let made = c.in_ok-receipt.ensures.unwritten later in
+    let empty : written_in g.S.Output.Write.contents c.in_ok-receipt.receipt ≡ begun (receipt_name (choices_of c.args.call.now)) = cc in
+    let more : (named : Option (List (List ℕ × List ℕ)))
+    → GivesAll (g.S.OutputSystem.place c.args.system.now) (choices_of c.args.call.now)
+    (bytes_in (writer_contents g.S.Output.Write.contents) c.run_piece-checked.new.outputs.lrat) None
+    (bytes_in (writer_contents g.S.Output.Write.contents) c.run_piece-checked.new.outputs.core)
+    (g.S.OutputSystem.renamed c.args.given.now) named
+    → NamesPiece (g.S.OutputSystem.place c.args.system.now) (choices_of c.args.call.now) (Some text) (Some wanted)
+    (g.S.OutputSystem.renamed c.args.given.now) named
+    = λ named gives. rw (← formula, ← target) (names_piece c.in_ok-made.made.core _ _ c.in_ok-made.made.form _ _ _ _ _ _ _ named _ _ c.run_piece-checked.result
     (record { verdict = shown.verdict; is = checked; shown = shown.shown })
     c.in_ok-made.ensures.form (c.in_ok-made.ensures.lrat unwritten) (c.in_ok-made.ensures.core unwritten) c.in_ok-made.ensures.wanted
-    gives c.run_piece-checked.ensures.lines c.run_piece-checked.ensures.core)
+    gives c.run_piece-checked.ensures.lines c.run_piece-checked.ensures.core) in
+    let options = choices_of c.args.call.now in
+    let place = g.S.OutputSystem.place c.args.system.now in
+    let before = g.S.OutputSystem.renamed c.args.given.now in
+    let named = g.S.OutputSystem.renamed c.show_piece-outcome.new.given in
+    keeps_piece place options text wanted _ _ (NamesPiece place options (Some text) (Some wanted) before) named
+    c.show_piece-outcome.result zero c.show_piece-outcome.ensures.line
+    (λ carried. let kept = rw same at (c.show_piece-outcome.ensures.carried text wanted taken taken_next empty carried) in (
+      c.run_piece-checked.ensures.carries text wanted formula target (rw carried at c.show_piece-outcome.ensures.verdict),
+      record { outputs = kept.outputs; named = more kept.outputs kept.named; receipt_named = kept.receipt_named },
+    ))
+    (λ refuted. let kept = rw same at (c.show_piece-outcome.ensures.refuted text taken empty refuted) in (
+      c.run_piece-checked.ensures.refutes text formula (rw refuted at c.show_piece-outcome.ensures.verdict),
+      record { outputs = kept.outputs; named = more kept.outputs kept.named; receipt_named = kept.receipt_named },
+    ))
