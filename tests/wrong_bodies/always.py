@@ -14,7 +14,7 @@ import tempfile
 
 import kinds
 import toolchain
-from functions import NoCopy, WrongBody, functions
+from functions import NoCopy, WrongBody, functions, types_of
 from judging import judge, read_judgements
 from records import ROOT, bodies, files_in, sources_of
 
@@ -72,14 +72,14 @@ def cited(crate, room):
 
 def write_holes(crate, names, room):
     """Puts a hole in place of the proof of each function except these, and except where other proofs name what is written there."""
-    kept = cited(crate, room)
+    kept, types = cited(crate, room), types_of(room)
     for file in sources_of(room):
         with open(file, encoding="utf-8") as source:
             lines = source.read().split("\n")
         for function in functions(lines):
             if function.name in names or not function.is_plain() or function.calls_itself(lines):
                 continue
-            place = function.place(os.path.relpath(file, room))
+            place = function.place(os.path.relpath(file, room), types)
             if place in kept:
                 continue
             shutil.rmtree(f"{room}/proofs/{place}", ignore_errors=True)

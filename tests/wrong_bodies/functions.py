@@ -4,6 +4,7 @@ import os
 import re
 
 FUNCTION = re.compile(r"^( *)(?:pub(?:\([^)]*\))? )?(?:const )?(?:unsafe )?fn (\w+)")
+TYPE = re.compile(r"(?m)^(?:pub(?:\([^)]*\))? )?(?:struct|enum|union) (\w+)")
 BLOCK = re.compile(r"^(?:pub(?:\([^)]*\))? )?(?:unsafe )?(impl|trait|mod)\b(.*)")
 
 
@@ -46,13 +47,15 @@ class Function:
         """Whether it is a function of a file, or a method of a type alone."""
         return not self.is_of_a_trait() and (not self.block or self.block[0] != "mod")
 
-    def place(self, file):
-        """Where in `proofs/` its proof is: by its module and its type."""
-        module, owner = re.sub(r"^src/|(/mod)?\.rt$", "", file), None
+    def place(self, file, types):
+        """Where in `proofs/` its proof is: by its type, and the module of that, or by its own."""
+        owner = None
         if self.block:
             head = self.block[1].split("{")[0].split("where")[0]
             head = re.sub(r"^\s*<(?:[^<>]|<[^<>]*>)*>", "", head).strip()
             owner = re.match(r"[\w:]+", head)[0].split("::")[-1]
+        homes = types.get(owner, [file])
+        module = re.sub(r"^src/|(/mod)?\.rt$", "", file if file in homes else homes[0])
         return "/".join(it for it in ("" if module in ("lib", "main") else module, owner, self.name) if it)
 
     def calls_itself(self, lines):
@@ -74,6 +77,17 @@ def functions(lines):
         elif FUNCTION.match(line):
             found.append(Function(lines, at, block))
     return [it for it in found if it.opens is not None]
+
+
+def types_of(crate):
+    """In which files of a crate types of a name stand."""
+    found = {}
+    for at, _, names in sorted(os.walk(f"{crate}/src")):
+        for name in (it for it in sorted(names) if it.endswith(".rt")):
+            with open(f"{at}/{name}", encoding="utf-8") as file:
+                for it in TYPE.findall(file.read()):
+                    found.setdefault(it, []).append(os.path.relpath(f"{at}/{name}", crate))
+    return found
 
 
 class NoCopy(Exception):
@@ -160,5 +174,5 @@ class WrongBody:
 
     def proofs(self, crate):
         """The folder with what is written of the function's proof, if it has one."""
-        path = f"{crate}/proofs/{self.function.place(self.file)}"
+        path = f"{crate}/proofs/{self.function.place(self.file, types_of(crate))}"
         return path if os.path.isdir(path) else None
