@@ -77,8 +77,11 @@ class Maker:
         self.put(text("i", clause), text("i", turned), text("i", [name, *turned]))
         self.all = [it for it in self.all if any(x in it for x in clause)]
 
+    def hints(self, units):
+        return propagated(self.clauses, units)
+
     def lemma(self, clause):
-        hints = propagated(self.clauses, [-it for it in clause])
+        hints = self.hints([-it for it in clause])
         name = self.name(clause)
         self.lemmas.append(name)
         self.put(None, text("l", clause), text("l", [name, *clause], hints))

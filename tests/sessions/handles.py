@@ -15,7 +15,8 @@ What it shows in addition has to be true of all assignments. It is asked as its 
 unsatisfiability is recorded, no lemma and no core is checked any more. Proofs with a line `U` are left out.
 
 Then in the sessions of seed FROM to TO - 1 there are random calls between the right ones: what is accepted of them has to be true, and
-the right ones have to be accepted all the same.
+the right ones have to be accepted all the same. Lemmas follow by propagation along their hints, of which a session needs each one. And
+with a session that answers one kind of call always the same, or forgets its lemmas, something has to be found.
 """
 
 import random
@@ -24,7 +25,7 @@ import subprocess
 import sys
 import tempfile
 
-from fuzz import Maker, assignments, damaged, true_answers
+from fuzz import Maker, assignments, damaged, propagated, true_answers
 from told import judged_ones, text
 
 from cefindrato import Checker, Fault, Session, Step, clause_hash
@@ -42,8 +43,49 @@ def is_tautology(clause):
     return any(-it in clause for it in clause)
 
 
+def conflict_along(clauses, units, hints):
+    """Whether propagation along the hints finds a conflict, and none before it has two literals that are not false."""
+    true = set(units)
+    for name in hints:
+        left = {it for it in clauses[name] if -it not in true}
+        if not left:
+            return True
+        if len(left) > 1:
+            return False
+        true |= left
+    return False
+
+
+class Learned(Maker):
+    """A session whose solver learns clauses all the time, each with hints of which none can be left out."""
+
+    def give(self):
+        super().give()
+        if [] not in self.clauses.values():
+            self.learn()
+
+    def learn(self):
+        """A lemma against decisions that lead to a conflict by propagation, if some do."""
+        decided = self.random.sample([self.random.choice((1, -1)) * it for it in range(1, 1 + self.top)], self.top)
+        for count in range(1 + self.top):
+            if propagated(self.clauses, decided[:count]) is not None:
+                self.lemma([-it for it in decided[:count]])
+                return
+
+    def hints(self, units):
+        """The newest clauses are taken first. What is left out leaves those behind it unit, if it is not needed."""
+        hints = propagated(dict(reversed(self.clauses.items())), units)
+        for name in reversed(hints):
+            fewer = [it for it in hints if it != name]
+            if conflict_along(self.clauses, units, fewer):
+                hints = fewer
+        return hints
+
+
 class BySession:
     """A session of the library, and why its last rejected call was rejected."""
+
+    needs_each_hint = True
 
     def __init__(self):
         self.session, self.why = Session(), None
@@ -74,6 +116,8 @@ class BySession:
 
 class ByChecker:
     """The ported checker, and what its caller keeps: clauses by their names, and the names of lemmas that it can delete."""
+
+    needs_each_hint = False
 
     def __init__(self):
         self.checker, self.why = Checker(), None
@@ -336,13 +380,17 @@ class Disturbed:
     """A right session with random calls between the right ones."""
 
     def __init__(self, side, seed):
-        self.seed, self.made, self.chance, self.play = seed, Maker(seed), random.Random(seed), Play(side)
+        self.seed, self.made, self.chance, self.play = seed, Learned(seed), random.Random(seed), Play(side)
         self.side, self.left, self.names = side, assignments(self.made.top), []
         self.calls, self.accepted, self.wrong = 0, 0, []
 
     def run(self):
         for line in merged(self.made.said, self.made.hinted):
+            if line.kind == "l" and self.side.needs_each_hint:
+                self.fewer_hints(line)
             self.play.take(line)
+            if line.kind == "l" and self.play.is_broken:
+                self.wrong.append(f"rejected: lemma {line.first} {line.second}")
             if line.kind == "i":
                 self.left = [it for it in self.left if any(x in it for x in line.first)]
             if line.name is not None:
@@ -355,6 +403,12 @@ class Disturbed:
         if unshown != self.made.silent:
             self.wrong.append(f"not shown: {unshown}, in place of {self.made.silent}")
         return self
+
+    def fewer_hints(self, line):
+        for at in range(len(line.second)):
+            fewer = line.second[:at] + line.second[at + 1 :]
+            if self.side.derive(line.name, line.first, fewer):
+                self.wrong.append(f"accepted: lemma {line.first} {fewer}, in place of {line.second}")
 
     def some(self, among, most):
         return self.chance.choices(among, k=self.chance.randint(0, most)) if among else []
@@ -388,9 +442,36 @@ class Disturbed:
         self.judge(self.side.satisfies(assumed, model), is_true, "model", assumed, model)
 
 
-def disturb(kind, first, last):
+def fixed(kind, call, answer):
+    """A side of which one call always answers the same."""
+    side = kind()
+    side.why = "it always is"
+    setattr(side, call, lambda *_: answer)
+    return side
+
+
+class Forgetful(BySession):
+    """A session whose lemmas are gone at once."""
+
+    def derive(self, name, lemma, hints):
+        is_accepted = super().derive(name, lemma, hints)
+        self.delete([name] if is_accepted else [])
+        return is_accepted
+
+
+def passed_over(seeds):
+    """The wrong sides, by their names, in which nothing is found."""
+    wrong = {"lemmas are forgotten": (Forgetful,)}
+    for kind in (BySession, ByChecker):
+        for call in ("derive", "fails", "satisfies"):
+            for answer in (False, True):
+                wrong[f"{kind.__name__}: {call} is always {answer}"] = fixed, kind, call, answer
+    return [what for what, (make, *of) in wrong.items() if not any(Disturbed(make(*of), it).run().wrong for it in seeds)]
+
+
+def disturb(kind, seeds):
     """Sessions with random calls between; how many were wrong."""
-    runs = [Disturbed(kind(), seed).run() for seed in range(first, last) if not any(it[0] == "U" for it in Maker(seed).hinted)]
+    runs = [Disturbed(kind(), it).run() for it in seeds]
     for run in runs:
         for why in run.wrong:
             print(f"seed {run.seed}", *run.made.said, *run.made.hinted, why, sep="\n")
@@ -406,15 +487,19 @@ def main(program, judged, first, last):
         for name, said, proof in judged_ones(judged):
             corpus.compare(name, said, proof)
         for seed in seeds:
-            made, chance = Maker(seed), random.Random(-seed)
+            made, chance = Learned(seed), random.Random(-seed)
             small.compare(f"seed {seed}", made.said, made.hinted)
             small.compare(f"seed {seed}, another proof", made.said, damaged(chance, made.hinted))
             small.compare(f"seed {seed}, another interaction", damaged(chance, made.said), made.hinted)
     corpus.tell("judged sessions")
     small.tell("random sessions")
     wrong = [it.wrong or not it.shown for it in (corpus, small)]
-    wrong += [disturb(kind, seeds.start, seeds.stop) for kind in (BySession, ByChecker)]
-    return any(wrong)
+    seeds = [it for it in seeds if not any(line[0] == "U" for line in Learned(it).hinted)]
+    wrong += [disturb(kind, seeds) for kind in (BySession, ByChecker)]
+    missed = passed_over(seeds)
+    if missed:
+        print("nothing is found where", *missed, sep="\n")
+    return any(wrong) or bool(missed)
 
 
 if __name__ == "__main__":
