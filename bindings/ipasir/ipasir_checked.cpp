@@ -56,14 +56,18 @@ class Layer {
         return told_;
     }
 
-    // Only what was shown, unless the answer was let through. A variable that nothing was said of is false.
+    // Only what was shown, unless the answer was let through. A variable that no call has named is false.
     int value(int literal) {
         if (told_ != 10) {
             return 0;
         }
-        auto variable = static_cast<std::size_t>(std::abs(literal));
-        bool is_true = variable < values_.size() && values_[variable];
-        return is_true == (literal > 0) ? literal : -literal;
+        int variable = std::abs(literal);
+        if (variable > top_) {
+            return -variable;
+        }
+        auto at = static_cast<std::size_t>(variable) - 1;
+        bool is_told = at < model_.size() && std::abs(model_[at]) == variable;
+        return is_told ? model_[at] : 0;
     }
 
     int failed(int literal) { return told_ == 20 && core_.count(literal); }
@@ -87,13 +91,8 @@ class Layer {
     }
 
     bool shows_model() {
-        Literals model;
-        values_.assign(static_cast<std::size_t>(top_) + 1, false);
-        solver_.read_model(values_);
-        for (int variable = 1; variable <= top_; variable++) {
-            model.push_back(values_[static_cast<std::size_t>(variable)] ? variable : -variable);
-        }
-        bool is_shown = session_.satisfies(assumed_, model);
+        solver_.read_model(top_, model_);
+        bool is_shown = session_.satisfies(assumed_, model_);
         cause_ = session_.cause();
         return is_shown;
     }
@@ -112,9 +111,8 @@ class Layer {
     Session session_;
     Solver solver_{session_};
     sessions::Callbacks callbacks_{solver_.cadical};
-    Literals clause_, assumed_;
+    Literals clause_, assumed_, model_;
     std::unordered_set<int> core_;
-    std::vector<bool> values_;
     int top_ = 0, told_ = 0;
     bool has_answer_ = false, is_shown_ = false;
     std::string cause_;

@@ -82,10 +82,11 @@ class Solver : CaDiCaL::WitnessIterator {
 
     int solve() { return cadical.solve(); }
 
-    // Which variables are true.
-    void read_model(std::vector<bool> &values) {
-        for (std::size_t variable = 1; variable < values.size(); variable++) {
-            values[variable] = cadical.val(static_cast<int>(variable)) > 0;
+    // The literal of each variable, in their order.
+    void read_model(int top, Literals &model) {
+        model.clear();
+        for (int variable = 1; variable <= top; variable++) {
+            model.push_back(cadical.val(variable));
         }
     }
 

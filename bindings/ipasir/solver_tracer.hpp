@@ -20,6 +20,8 @@ class Solver : CaDiCaL::Tracer {
         cadical.set("quiet", 1);
         // (a definition of a new variable does not follow; versions without the option ignore it)
         cadical.set("factor", 0);
+        // (with it the solver looks through the reason of each assignment, for the hints alone)
+        cadical.set("chrono", 0);
         cadical.connect_proof_tracer(static_cast<CaDiCaL::Tracer *>(this), true);
     }
     ~Solver() { cadical.disconnect_proof_tracer(static_cast<CaDiCaL::Tracer *>(this)); }
@@ -42,16 +44,14 @@ class Solver : CaDiCaL::Tracer {
         return cadical.solve();
     }
 
-    // Which variables are true, as it told of all at once while it solved, or tells of each.
-    void read_model(std::vector<bool> &values) {
-        if (model_.empty()) {
-            for (std::size_t variable = 1; variable < values.size(); variable++) {
-                values[variable] = cadical.val(static_cast<int>(variable)) > 0;
-            }
-        }
-        for (int literal : model_) {
-            if (literal > 0 && static_cast<std::size_t>(literal) < values.size()) {
-                values[static_cast<std::size_t>(literal)] = true;
+    // The literal of each variable, in their order: as it told of all at once while it solved, if it left none out, or as it tells of each.
+    void read_model(int top, Literals &model) {
+        model.swap(model_);
+        int count = static_cast<int>(model.size());
+        if (count < top || (count && std::abs(model.back()) != count)) {
+            model.clear();
+            for (int variable = 1; variable <= top; variable++) {
+                model.push_back(cadical.val(variable));
             }
         }
     }

@@ -97,6 +97,13 @@ class Solver {
         for (int variable = 1; variable <= top_; variable++) {
             model.push_back(val(variable));
         }
+#ifdef LATER
+        // (a variable is left out, and one of the solver's own is not)
+        if (!model.empty()) {
+            model.erase(model.begin() + static_cast<int>(last_ % model.size()));
+            model.push_back(top_ + 1);
+        }
+#endif
         tracer_->conclude_sat(model);
     }
 
