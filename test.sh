@@ -13,17 +13,19 @@ tests/wrong_definitions.sh --records
 # `rt ci` puts libraries of an earlier run back in place of its own. Without them, all that follows is built over those of this run.
 # What checks have kept, in out/incremental, stays.
 rm -rf crates/*/out/rlib
+# The toolchain keeps the module of each program, of which tools/portable.sh makes others.
+rt=$(tools/portable.sh --toolchain "$told/toolchain")
 proved=0
-rt ci 2>&1 | tee "$told/gate" || proved=$?
+"$rt" ci 2>&1 | tee "$told/gate" || proved=$?
 python3 -B tests/wrong_bodies/toolchain.py .
 ((proved == 0)) || exit "$proved"
 tests/weak_edits.sh "$told/gate"
 
 # run SCRIPT [WORD ..]: its lines, its name and its seconds, together; a name that is left in `failed` if it failed. What uses the archive of the
-# library, or the modules of programs, waits until they are made, but not for ever.
+# library waits until it is made, but not for ever.
 run() {
   local status=0
-  if [[ " bindings install ipasir portable release " == *" $1 "* ]]; then
+  if [[ " bindings install ipasir release " == *" $1 "* ]]; then
     for ((waited = 0; waited < 1800; waited++)); do
       [[ ! -e $told/library.ended ]] || break
       sleep 1
@@ -40,7 +42,7 @@ export -f run
 export told
 # (two more than there are processors, since at first two wait for the library)
 printf '%s\n' library 'wrong_bodies --asked' release portable slurm refused_growths sessions session_check cubes pieces ipasir failing_files drat_fuzz drat_growth lrat_fuzz drat_outputs install bindings \
-  log_lines end_to_end rows drat_solvers frat large_formulas named_files examples records checked checked_all verified definitions proof_picture solver_runs prove_and_run memory model_check follows join circuit_check circuits dist packages |
+  log_lines end_to_end rows drat_solvers frat large_formulas named_files examples records checked checked_all verified definitions proof_picture solver_runs prove_and_run memory model_check follows join receipts circuit_check circuits dist packages |
   xargs -P "$(($(nproc) + 2))" -I SCRIPT bash -c 'run SCRIPT'
 
 # What failed is told once more at the end, where it is looked for.

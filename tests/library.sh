@@ -1,8 +1,8 @@
 #!/usr/bin/env bash
-# Makes what the gate does not: the archive of the library for C, and the modules of two programs.
+# Makes what the gate does not: the archive of the library for C.
 #
-# Both are made in a copy, over the libraries that `./test.sh` or an earlier run has left, and what that leaves is taken over. Where that
-# can't be done, it says why, and the scripts that want them make them.
+# It is made in a copy, over the libraries that `./test.sh` or an earlier run has left, and what that leaves is taken over. Where that
+# can't be done, it says why, and the scripts that want the archive make it.
 set -euo pipefail
 cd "$(dirname "$0")/.."
 work=$(mktemp -d)
@@ -12,7 +12,7 @@ mkdir "$work/copy"
 tar -c --exclude=./.git --exclude=out --exclude=target . | tar -x -C "$work/copy"
 find crates -mindepth 3 -maxdepth 3 -path '*/out/rlib' -exec cp -a --parents {} "$work/copy" \;
 crate=$(realpath --relative-to . "$(dirname "$(dirname "$(bindings/build.sh --archive)")")")
-(cd "$work/copy/$crate" && rt lib && ../../tools/portable.sh --module lrat_check circuit_check) > "$work/said" 2>&1 ||
+(cd "$work/copy/$crate" && rt lib) > "$work/said" 2>&1 ||
   echo "not all was built over the gate's libraries: $(tail -n 3 "$work/said")"
 for kept in "$work"/copy/crates/*/out/; do
   crate=${kept%/out/}
@@ -20,18 +20,12 @@ for kept in "$work"/copy/crates/*/out/; do
   if [[ ! -d $kept ]]; then
     continue
   fi
-  if [[ $crate != *_main ]]; then
-    mkdir -p "crates/$crate/out"
-    for made in "$kept"*; do
-      # (a library that was copied hence stays: other scripts read it)
-      if ! cmp -s "$made/stamp" "crates/$crate/out/${made##*/}/stamp"; then
-        rm -rf "crates/$crate/out/${made##*/}"
-        cp -a "$made" "crates/$crate/out/"
-      fi
-    done
-  elif [[ -f $kept$crate.bc ]]; then
-    # (the program is the gate's; a gate that took it from an earlier run has left no object of it)
-    cp "$kept$crate".bc* "crates/$crate/out/"
-    [[ -f crates/$crate/out/$crate.o ]] || cp "$kept$crate.o" "crates/$crate/out/"
-  fi
+  mkdir -p "crates/$crate/out"
+  for made in "$kept"*; do
+    # (a library that was copied hence stays: other scripts read it)
+    if ! cmp -s "$made/stamp" "crates/$crate/out/${made##*/}/stamp"; then
+      rm -rf "crates/$crate/out/${made##*/}"
+      cp -a "$made" "crates/$crate/out/"
+    fi
+  done
 done

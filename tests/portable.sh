@@ -4,8 +4,8 @@
 #
 #   tests/portable.sh [--pictures FOLDER] [NAME..]
 #
-# NAMEs are `lrat_check` and `circuit_check` if none is named. The programs must be built, and their modules be beside them, as
-# `tools/portable.sh --module NAME..` leaves them. It uses what is there of node, gcc, clang, tcc, qemu-aarch64 and chromium, and says
+# NAMEs are `lrat_check` and `circuit_check` if none is named. The programs must be built, and their modules be beside them, as the `rt`
+# of `tools/portable.sh --toolchain FOLDER` leaves them. It uses what is there of node, gcc, clang, tcc, qemu-aarch64 and chromium, and says
 # what is not. FOLDER gets pictures of the page.
 set -euo pipefail
 

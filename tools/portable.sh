@@ -2,7 +2,7 @@
 # Makes proved programs for machines that have neither the toolchain nor Linux on x86-64.
 #
 #   tools/portable.sh [--built] OUT NAME..
-#   tools/portable.sh --module NAME..
+#   tools/portable.sh --toolchain FOLDER
 #
 # NAME is `drat_check`, `lrat_check`, `model_check` or `circuit_check`, or `follows_check` or `minimal_check`, which are not in the page.
 # OUT gets these forms; one that can't be made here says what is missing:
@@ -14,31 +14,29 @@
 #
 # All are made of the module that the proof's build hands to LLVM. A toolchain whose clang copies its input gives it, over what is
 # kept of the program's crate and those below it; with --built it is the one that a run before has left. Each time it is compiled and
-# linked as `rt` does, and that has to be the proved program, byte for byte. With --module the module is made and no more, beside
-# what is built in the program's crate: there is nothing to compare it with yet. RT may name another `rt`.
+# linked as `rt` does, and that has to be the proved program, byte for byte. With --toolchain this toolchain is made in FOLDER and no
+# more, and the path of its `rt` is written: what that builds has its module beside it, as `--built` wants it. RT may name another `rt`.
 set -euo pipefail
 
 usage() {
-  echo "usage: tools/portable.sh [--built] OUT NAME.., or --module NAME.. (drat_check, lrat_check, model_check, circuit_check, follows_check, minimal_check)" >&2
+  echo "usage: tools/portable.sh [--built] OUT NAME.., or --toolchain FOLDER (drat_check, lrat_check, model_check, circuit_check, follows_check, minimal_check)" >&2
   exit 2
 }
-is_built='' is_module='' out=''
+is_built='' is_toolchain=''
 case ${1:-} in
   --built) is_built=1 ;;
-  --module) is_module=1 ;;
+  --toolchain) is_toolchain=1 ;;
 esac
-if [[ $is_built$is_module ]]; then
+if [[ $is_built$is_toolchain ]]; then
   shift
 fi
-if [[ ! $is_module ]]; then
-  if [[ -z ${1:-} || $1 == -* ]]; then
-    usage
-  fi
-  out=$(realpath -m "$1")
-  shift
+if [[ -z ${1:-} || $1 == -* ]]; then
+  usage
 fi
+out=$(realpath -m "$1")
+shift
 names=("$@")
-if ((${#names[@]} == 0)); then
+if [[ ($is_toolchain && ${#names[@]} != 0) || (! $is_toolchain && ${#names[@]} == 0) ]]; then
   usage
 fi
 shown=()
@@ -70,29 +68,19 @@ has() {
   }
 }
 
-# watching KEPT: a toolchain in $work/kit that is the real one, but that its clang copies the module to KEPT, and its words to KEPT.words
-watching() {
+# toolchain FOLDER: a toolchain that is the real one, but that its clang keeps each module beside what is made of it
+toolchain() {
   local name
-  mkdir -p "$work/kit/bin" "$work/kit/toolchain/bin"
+  mkdir -p "$1/bin" "$1/toolchain/bin"
   for name in "$kit"/* "$kit"/bin/* "$kit"/toolchain/* "$kit"/toolchain/bin/*; do
     case ${name#"$kit"/} in
       bin | toolchain | toolchain/bin | toolchain/bin/clang) ;;
       # (what finds its folder by its own place is no link)
-      bin/rt | bin/rtlib.py) cp "$name" "$work/kit/bin/" ;;
-      *) ln -s "$name" "$work/kit/${name#"$kit"/}" ;;
+      bin/rt | bin/rtlib.py) cp "$name" "$1/bin/" ;;
+      *) ln -s "$name" "$1/${name#"$kit"/}" ;;
     esac
   done
-  cat > "$work/kit/toolchain/bin/clang" << END
-#!/bin/bash
-for word; do
-  if [[ \$word == module.bc ]]; then
-    /usr/bin/cp module.bc '$1'
-    printf '%s\n' "\$@" > '$1.words'
-  fi
-done
-exec -a "\$0" '$clang' "\$@"
-END
-  chmod 755 "$work/kit/toolchain/bin/clang"
+  "${CC:-cc}" -O2 -Wall -Wextra -DCLANG="\"$clang\"" -o "$1/toolchain/bin/clang" "$own/keep.c"
 }
 
 # is_kept NAME: whether the module that is kept gives the proved program
@@ -120,8 +108,9 @@ proved() {
 
 # watched NAME: builds the program so that its module is kept
 watched() {
-  rm -rf "$work/kit"
-  watching "$top/crates/$1_main/out/$1_main.bc"
+  if [[ ! -d $work/kit ]]; then
+    toolchain "$work/kit"
+  fi
   proved "$1" "$work/kit/bin/rt"
 }
 
@@ -188,10 +177,9 @@ aarch64() {
   aarch64-linux-gnu-gcc -static -s -Wl,--gc-sections -O2 -o "$out/$1-aarch64" "$work/aarch64.o" "$top/tools/release/rt.c"
 }
 
-if [[ $is_module ]]; then
-  for name in "${names[@]}"; do
-    watched "$name"
-  done
+if [[ $is_toolchain ]]; then
+  toolchain "$out"
+  echo "$out/bin/rt"
   exit
 fi
 mkdir -p "$out"
