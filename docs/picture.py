@@ -79,10 +79,10 @@ def text_of(*path):
 
 
 def crates():
-    """Each crate with the crates that its line names, in the order of `crates.txt`."""
+    """Each crate with the crates that its line names, in the order of `crates.txt`, except those that are for tests."""
     lines = (line.split("#")[0].strip() for line in text_of("crates.txt").splitlines())
     named = (line.split(":") for line in lines if line)
-    return {head.split()[0]: rest.split() for head, rest in named}
+    return {head.split()[0]: [name for name in rest.split() if not name.startswith("test_")] for head, rest in named}
 
 
 def below(crate, listed):

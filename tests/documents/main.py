@@ -13,8 +13,9 @@ What a document can say of files, and how it is written:
     ```rust path                        a quotation: these words are there one after the other
 
 Of each crate of `crates.txt` something is said, except of programs and of tests. The README has each program as it says that it is
-called. There is one version. Words over which readers of technical English stumble are not used, in documents and in what programs
-say of themselves; fewer are checked in comments of sources, definitions and proofs.
+called. There is one version. What is believed by reading alone is no longer than `MOST_LINES` says. Words over which readers of
+technical English stumble are not used, in documents and in what programs say of themselves; fewer are checked in comments of sources,
+definitions and proofs.
 
 All documents together have at most 30,000 words. Documents are the files that git has by the name `*.md`. A word is what stands between
 blanks outside of fenced code blocks, as `wc -w` counts, except a bar of a table.
@@ -38,6 +39,7 @@ QUOTED = re.compile(r"^```\w+ (\S+/\S+)\n(.*?)^```$", re.MULTILINE | re.DOTALL)
 LAWS = re.compile(r"\b[Ll]aws? (`\w+`(?:(?:,| and) `\w+`)*)")
 CONTRACT = re.compile(r"((?:`[\w:]+`(?:, | and )?)+)(?: of [^:|;]*)?: ((?:`\w+`(?: \([^)]*\))?(?:, | and )?)+)")
 MOST_WORDS = 30_000
+MOST_LINES = {"crates/command/src/host.rt": 60}
 CRATES_PAGE = "docs/reference/ARCHITECTURE.md"
 VERSION_PAGE = "crates/command/src/status.rt"
 PLAIN = {
@@ -171,6 +173,12 @@ def bad_length(documents):
         yield f"all documents have {words} words together, not at most {MOST_WORDS}"
 
 
+def bad_bounds():
+    for path, most in MOST_LINES.items():
+        if lines_of(path) > most:
+            yield f"{path} has {lines_of(path)} lines, not at most {most}: it is believed by reading"
+
+
 def columns(text, head):
     """The cells below a head of the tables."""
     at = None
@@ -252,7 +260,7 @@ def main():
         for document in documents
         for fault in faults(document, known_laws, known_contracts)
     ]
-    found += [*bad_length(documents), *bad_crates(), *bad_calls(), *bad_versions(), *bad_comments(), *bad_programs()]
+    found += [*bad_length(documents), *bad_bounds(), *bad_crates(), *bad_calls(), *bad_versions(), *bad_comments(), *bad_programs()]
     print(*found, sep="\n", end="\n" if found else "")
     return 1 if found else 0
 
