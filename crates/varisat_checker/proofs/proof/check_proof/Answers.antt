@@ -9,7 +9,13 @@ use Rattle.varisat_checker.proofs.RunDelivered.{delivered-begins, delivered-clos
 use Rattle.varisat_checker.proofs.proof.check_proof.Goals as goal
 
 pub steps-init : goal.steps-init
-steps-init g c = grind (arith, common_steps, delivered-begins)
+steps-init g c = record {
+  open_reader = λ _. c.new-reader.ensures.ended;
+  kept = c.requires;
+  so_far = delivered-begins c.new-reader.ensures.bytes c.new-reader.ensures.format;
+  ended = λ e. e;
+  exhausted = λ e. e;
+}
 
 fewer-left : (a b : ℕ) → a < 2 ^ 64 → (a ≡ 2 ^ 64 - 1 → ⊥) → b ≡ a + 1 → 2 ^ 64 - 1 - b < 2 ^ 64 - 1 - a
 fewer-left a b fits some e = omega (arith, fits, some, e)
