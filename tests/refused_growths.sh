@@ -1,33 +1,26 @@
 #!/usr/bin/env bash
 # Refuses the growths of programs, one after the other: first each alone, and then all from each one on.
 #
-# It plays the rows of `refused_growths`, which judges them itself, and runs the programs on real proofs: no verdict may stand in
-# place of an error. The programs must be built: `rt ci` does it, or `rt run` in their folders. It needs `cc`.
+# It plays calls of the checker, in `tests/refused_growths/scripts`, and runs the programs on real proofs: no verdict may stand in place
+# of an error. The programs must be built: `rt ci` does it, or `rt run` in their folders. It needs `cc`.
 set -euo pipefail
-
-top=$(cd "$(dirname "$0")/.." && pwd)
-rows=$top/crates/refused_growths/out/refused_growths
-check=$top/crates/varisat_check_main/out/varisat_check_main
-hint_check=$top/crates/hint_check_main/out/hint_check_main
-lrat_check=$top/crates/lrat_check_main/out/lrat_check_main
-lrat_to_proof=$top/crates/lrat_to_proof_main/out/lrat_to_proof_main
-drat_check=$top/crates/drat_check_main/out/drat_check_main
-model_check=$top/crates/model_check_main/out/model_check_main
-follows=$top/crates/follows_check_main/out/follows_check_main
-minimal=$top/crates/minimal_check_main/out/minimal_check_main
-circuit=$top/crates/circuit_check_main/out/circuit_check_main
+. "$(dirname "$0")/lib.sh"
+vectors=$top/crates/check_vectors/out/check_vectors
+if [[ ! -x $vectors ]]; then
+  echo "not built: $vectors"
+  exit 1
+fi
+check=$(built varisat_check)
+hint_check=$(built hint_check)
+lrat_check=$(built lrat_check)
+lrat_to_proof=$(built lrat_to_proof)
+drat_check=$(built drat_check)
+model_check=$(built model_check)
+follows=$(built follows_check)
+minimal=$(built minimal_check)
+circuit=$(built circuit_check)
 data=$top/tests/data
-work=$(mktemp -d)
-trap 'rm -rf "$work"' EXIT
-for program in "$rows" "$check" "$hint_check" "$lrat_check" "$lrat_to_proof" "$drat_check" "$model_check" "$follows" "$minimal" "$circuit"; do
-  if [[ ! -x $program ]]; then
-    echo "not built: $program"
-    exit 1
-  fi
-done
 "${CC:-cc}" -O2 -Wall -shared -fPIC -o "$work/fail.so" "$top/tests/refused_growths/fail.c" -ldl
-wrong=0
-declare -A growths
 unset RUST_LOG
 
 # refuse MODE NUMBER COMMAND..: a run with refused growths. It sets `status`, and `refused` to how many there were.
@@ -40,26 +33,6 @@ refuse() {
 misjudged() {
   echo "WRONG $1: status $status, output '$(cat "$work/out")', errors '$(cat "$work/err")'"
   wrong=1
-}
-
-# A row is as it may be, or memory was refused to the program that plays it; without a refused growth it is as written.
-play_row() {
-  local row=$1 mode=$2 number own=0
-  for ((number = 1; ; number++)); do
-    refuse "$mode" "$number" "$rows" "$row"
-    if ((refused == 0)); then
-      break
-    elif ((status == 4)); then
-      own=$((own + 1))
-    elif ((status != 0)); then
-      misjudged "$row $mode=$number"
-    fi
-  done
-  if [[ $status != 0 || $(cat "$work/out") != "$row: as written" ]]; then
-    misjudged "$row without a refused growth"
-  fi
-  growths[$row]=$((number - 1))
-  echo "$row $mode: $((number - 1)) runs, of which $own met the program that plays the row"
 }
 
 # stopped: a run with a refused growth claims nothing: there is no line and no line of hints; the fault is out of memory, or the
@@ -162,7 +135,8 @@ sum() {
   echo "sha256 $(sha256sum < "$1" | cut -d ' ' -f 1)"
 }
 
-"$rows" > "$work/all" || { cat "$work/all"; exit 1; }
+"$vectors" "$top/tests/refused_growths/scripts"
+python3 -B "$top/tests/refused_growths/scripts.py" "$vectors" "$work/fail.so" "$top/tests/refused_growths/scripts" || wrong=1
 # the added clauses of the LRAT proof alone
 sed '/ d /d;s/^[0-9]* //;s/^0 .*/0/;s/ 0 .*/ 0/' "$data/par10.lrat" > "$work/drat"
 printf '1 268435456 0\n1 -268435456 0\n-1 268435456 0\n-1 -268435456 0\n' > "$work/far.cnf"
@@ -203,11 +177,7 @@ printf 'aig 3 2 0 1 1\n0\n\2\2' > "$work/none.aig"
 printf 'aig 2 1 1 0 0 1\n2\n4\n' > "$work/machine.aig"
 printf '1\nb0\n0\n1\n0\n.\n' > "$work/stimulus"
 printf -- '-5 0\n0\n' > "$work/same"
-mapfile -t names < <(sed 's/: as written$//' "$work/all")
 for mode in FAIL_AT FAIL_FROM; do
-  for row in "${names[@]}"; do
-    play_row "$row" "$mode"
-  done
   for proof in "$data"/*.proof; do
     run "$(basename "$proof")" "$mode" 's UNSATISFIABLE' "$check" "${proof%.*.proof}.cnf" "$proof"
   done
@@ -250,9 +220,25 @@ for mode in FAIL_AT FAIL_FROM; do
 done
 parsed=$(awk '$1 == "p" { print "Parsed formula with " $3 " variables and " $4 " clauses" }' "$data/par10.cnf")
 run_logged 'par10.whole.proof with a log' 's UNSATISFIABLE' "[INFO  varisat_checker::checker] $parsed" "$check" "$data"/par10.{cnf,whole.proof}
+
+# count_growths PROOF: sets `growths` to how many a run has that reads this proof, which ends within its first step
+count_growths() {
+  local number
+  printf -- "$1" > "$work/short.proof"
+  : > "$work/nothing.cnf"
+  for ((number = 1; ; number++)); do
+    refuse FAIL_AT "$number" "$check" "$work/nothing.cnf" "$work/short.proof"
+    ((refused > 0)) || break
+  done
+  [[ $(head -n 1 "$work/err") == 'step 1: Unexpected end of proof file' ]] || misjudged "a proof that ends within its first step"
+  growths=$((number - 1))
+}
 # Nothing is grown for the number of literals that a proof announces: there are fewer growths than where one literal follows.
-if ((growths[announced_count] >= growths[short_list])); then
-  echo "WRONG announced_count: ${growths[announced_count]} growths, and ${growths[short_list]} where a literal follows"
+count_growths '\x05\xff\xff\xff\xff\xff\xff\xff\xff\xff\x01'
+announced=$growths
+count_growths '\x05\x02\x00'
+if ((announced >= growths)); then
+  echo "WRONG announced literals: $announced growths, and $growths where a literal follows"
   wrong=1
 fi
 exit "$wrong"

@@ -58,17 +58,6 @@ impl Write for Page {
 /// The output of a run, the text of its fault, and its exit status.
 pub type Outcome<'a> = (&'a str, &'a str, u8);
 
-/// Returns the outcome of a run with this text: a line with a verdict, or the text of a fault.
-pub fn outcome_of(told: &str) -> Outcome<'_> {
-    if told.starts_with("s NOT ") {
-        (told, "", 3)
-    } else if told.starts_with("s ") {
-        (told, "", 0)
-    } else {
-        ("", told, 1)
-    }
-}
-
 /// The end of a run.
 #[derive(Drop)]
 pub struct Ended {

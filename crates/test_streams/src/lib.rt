@@ -6,15 +6,9 @@ mod ended;
 mod pieces;
 mod shown;
 
-pub use ended::{Ended, Outcome, Page, outcome_of};
+pub use ended::{Ended, Outcome, Page};
 pub use pieces::Pieces;
 pub use shown::Shown;
 
 /// Four clauses, each excluding one assignment of two variables.
 pub const FOUR: &str = "1 2 0 1 -2 0 -1 2 0 -1 -2 0";
-
-/// The line of a proof that shows its formula unsatisfiable.
-pub const VERIFIED: &str = "s VERIFIED UNSAT\n";
-
-/// The line of a proof, or of an answer, that shows nothing.
-pub const NOT_VERIFIED: &str = "s NOT VERIFIED\n";

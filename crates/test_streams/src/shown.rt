@@ -1,6 +1,4 @@
 //! A text of what a test sees.
-use lrat_text::{Hint, LratLine};
-use sat_formula::Lit;
 use std::alloc::Global;
 use std::fmt::Display;
 
@@ -23,17 +21,6 @@ impl Shown {
     pub fn of<D: Display>(alloc: Global, value: &D) -> Shown {
         let mut shown = Shown::new(alloc);
         shown.value(value);
-        shown
-    }
-
-    /// Returns these words, each this many times.
-    pub fn of_parts(alloc: Global, parts: &[(&str, u32)]) -> Shown {
-        let mut shown = Shown::new(alloc);
-        for (words, count) in parts {
-            for _ in 0..*count {
-                shown.words(words);
-            }
-        }
         shown
     }
 
@@ -60,50 +47,6 @@ impl Shown {
     /// Appends the text of a value, as of a fault.
     pub fn value<D: Display>(&mut self, value: &D) {
         let _ = write!(self.text, "{value}");
-    }
-
-    /// Appends the numbers of literals, each after a blank.
-    pub fn lits(&mut self, lits: &[Lit]) {
-        for lit in lits {
-            self.signed(" ", lit.to_dimacs());
-        }
-    }
-
-    /// Appends a clause by its numbers.
-    pub fn clause(&mut self, lits: &[Lit]) {
-        self.words("[");
-        for lit in lits {
-            self.signed("", lit.to_dimacs());
-            self.words(" ");
-        }
-        self.words("]");
-    }
-
-    /// Appends a line of an LRAT proof up to its last word, without the number before a deletion.
-    pub fn lrat_line(&mut self, line: LratLine<'_>) {
-        match line {
-            LratLine::Add { id, clause, hints } => {
-                self.number("", id);
-                self.lits(clause);
-                self.words(" 0");
-                self.hints(hints);
-            }
-            LratLine::Delete { ids } => {
-                self.words("d");
-                for id in ids {
-                    self.number(" ", *id);
-                }
-            }
-        }
-    }
-
-    fn hints(&mut self, hints: &[Hint]) {
-        for hint in hints {
-            match *hint {
-                Hint::Along(id) => self.number(" ", id),
-                Hint::Against(id) => self.number(" -", id),
-            }
-        }
     }
 
     /// Clears the text.

@@ -1,4 +1,4 @@
-//! The example of the README, as it stands there.
+//! The example of `varisat_checker/CALLING.md`, as it stands there.
 use proof_bytes::ProofStep;
 use sat_formula::Lit;
 use std::alloc::Global;
@@ -26,7 +26,7 @@ fn finds_conflict(checker: &mut Checker, p: Lit, q: Lit, hash: u64) -> Result<bo
 }
 
 #[test]
-fn the_example_of_the_readme_refutes(rt: HostRuntime) -> Result<(), Fail> {
+fn the_example_refutes(rt: HostRuntime) -> Result<(), Fail> {
     let p = Lit::from_dimacs(1).ok_or("no literal")?;
     let q = Lit::from_dimacs(2).ok_or("no literal")?;
     assert!(rt; matches!(refutes(rt.alloc(), p, q), Ok(true)));
