@@ -7,40 +7,9 @@
 #
 # The programs must be built: `rt ci` does it, or `rt run` in their folders.
 set -euo pipefail
-
-top=$(cd "$(dirname "$0")/.." && pwd)
-work=$(mktemp -d)
-trap 'rm -rf "$work"' EXIT
-mkdir "$work/bin"
-for program in drat_check join_check lrat_check model_check; do
-  built=$top/crates/${program}_main/out/${program}_main
-  if [[ ! -x $built ]]; then
-    echo "not built: $built"
-    exit 1
-  fi
-  ln -s "$built" "$work/bin/$program"
-done
-ln -s "$top/tools/cubes" "$work/bin/cubes"
-PATH=$work/bin:$PATH
+. "$(dirname "$0")/lib.sh"
+on_path drat_check join_check lrat_check model_check cubes
 cd "$work"
-wrong=0
-
-has() {
-  command -v "$1" > where || {
-    echo "$1 is not installed: not tried"
-    return 1
-  }
-}
-
-# says STATUS OUTPUT COMMAND..: the call must end so, and write this to both streams together
-says() {
-  local status=0 said
-  said=$("${@:3}" 2>&1) || status=$?
-  if [[ $status != "$1" || $said != "$2" ]]; then
-    printf '%s: status %d, it wrote:\n%s\n' "${*:3}" "$status" "$said"
-    wrong=1
-  fi
-}
 
 # same FILE TEXT: the file must hold this
 same() {
@@ -326,7 +295,7 @@ sed -i 's/ 0\([^ ]*\)$/ 1\1/; t; s/ .\([^ ]*\)$/ 0\1/' liar/2.receipt
 lies 'a receipt was edited'
 cp liar/1.receipt liar/2.receipt
 lies 'the receipt of another part'
-for of in 'cubes part three.cnf two.txt 1' 'cat four.cnf' 'cat three.cnf'; do
+for of in 'cubes part three.cnf two.txt 1' 'cubes part four.cnf two.txt 1' 'cat four.cnf' 'cat three.cnf'; do
   printf 'refuted sha256 %s\n' "$($of | sha256sum | cut -d ' ' -f 1)" > liar/1.receipt
   lies "the receipt of another text: $of"
 done

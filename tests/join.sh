@@ -6,11 +6,6 @@
 #
 # The program must be built: `rt ci` does it, or `rt run` in its folder.
 set -euo pipefail
-
-top=$(cd "$(dirname "$0")/.." && pwd)
-built=$top/crates/join_check_main/out/join_check_main
-if [[ ! -x $built ]]; then
-  echo "not built: $built"
-  exit 1
-fi
+. "$(dirname "$0")/lib.sh"
+built=$(built join_check)
 exec python3 -B "$top/tests/join/judge.py" "$built" "${1:-150}" "${2:-1}"

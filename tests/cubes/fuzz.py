@@ -17,7 +17,7 @@ import tempfile
 
 for folder in "join", "pieces":
     sys.path.insert(0, os.path.join(os.path.dirname(__file__), "..", folder))
-from judge import dimacs, is_satisfiable, laid_out, lines, parts, random_clause, refuted, variables, verified
+from judge import dimacs, is_satisfiable, laid_out, lines, part_text, parts, random_clause, refuted, variables, verified
 from overwrites import call, read, write
 
 
@@ -87,7 +87,7 @@ class Case:
             wanted = (10, said + satisfied, "") if answered else (1, f"{said}{len(refused)} of {len(self.names)} parts are not verified\n", "")
         if reported != wanted or checked[0] != (10 if answered else 1 if refused else 0):
             return f"{checked}, {reported}, and not {wanted}", False
-        texts = [dimacs(clauses) for clauses in self.clauses.values()]
+        texts = [part_text(clauses) for clauses in self.clauses.values()]
         written = {read(self.receipt(name)) for name in kept if name not in answered}
         if not written <= set(map(refuted, texts)):
             return f"receipts of other texts: {written}", False
@@ -100,7 +100,7 @@ class Case:
         place = self.dice.randrange(15, 79)
         others = [right[:place] + self.dice.choice(sorted(set("0123456789abcdef") - {right[place]})) + right[place + 1 :]]
         others += [read(self.receipt(self.dice.choice(self.names))), refuted(read(f"{self.folder}/f"))]
-        others += [refuted(dimacs([[1], *self.clauses[at]])), right.replace("refuted", "satisfied"), ""]
+        others += [refuted(part_text([[1], *self.clauses[at]])), refuted(dimacs(self.clauses[at])), right.replace("refuted", "satisfied"), ""]
         return at, [it for it in others if it != right]
 
     def turned_fault(self):

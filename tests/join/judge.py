@@ -61,6 +61,11 @@ def laid_out(dice, clauses):
     return f"c a formula\np cnf {variables(clauses)} {len(clauses)}\n{words}\n"
 
 
+def part_text(clauses):
+    """What a checker reads of a part: no header."""
+    return lines(clauses)
+
+
 def is_satisfiable(clauses):
     names = range(1, variables(clauses) + 1)
     for values in itertools.product(*((name, -name) for name in names)):
@@ -133,13 +138,13 @@ def split(tries, dice):
     if dice.random() < 0.4:
         cubes = [[name * sign for name, sign in zip(range(1, 3), signs)] for signs in itertools.product((1, -1), repeat=min(2, count))]
     text, cube_text = laid_out(dice, formula), lines(cubes)
-    made = [(name, dimacs(clauses), is_satisfiable(clauses)) for name, clauses in parts(formula, cubes)]
+    made = [(name, part_text(clauses), is_satisfiable(clauses)) for name, clauses in parts(formula, cubes)]
     receipts = [satisfied(part) if has_model else refuted(part) for _, part, has_model in made]
     open_parts = [name for name, _, has_model in made if has_model]
     tries.judged("receipts of parts", text, cube_text, dice.sample(receipts, len(receipts)), open_parts[0] if open_parts else None)
     if not open_parts:
         tries.same("a formula that is refuted", is_satisfiable(formula), False)
-        mixed = [refuted(dimacs(clauses)) for _, clauses in parts([*formula, [1]], cubes)]
+        mixed = [refuted(part_text(clauses)) for _, clauses in parts([*formula, [1]], cubes)]
         turned(tries, dice, text, cube_text, made, receipts, mixed)
 
 
@@ -162,7 +167,7 @@ def turned(tries, dice, text, cube_text, made, receipts, mixed):
     tries.judged("a receipt of the whole formula", text, cube_text, [*others, refuted(text)], first_without(made, [*others, refuted(text)]))
     tries.judged("a receipt stands twice", text, cube_text, [*receipts, receipts[at]], None)
     tries.judged("a receipt of another formula", text, cube_text, [*others, mixed[at]], first_without(made, others))
-    turned_cube = part.replace("\n", "\nc\n", 1)
+    turned_cube = f"c\n{part}"
     tries.judged("a receipt of another text", text, cube_text, [*others, refuted(turned_cube)], first_without(made, others))
     chain = [*others, carries(part, "between"), carries("between", "end"), refuted("end")]
     tries.judged("a part in pieces", text, cube_text, dice.sample(chain, len(chain)), None)
@@ -214,7 +219,7 @@ def recipe(tries):
     (tries.folder / "bin").mkdir()
     (tries.folder / "bin" / "join_check").symlink_to(tries.program)
     files = {"formula.cnf": dimacs(formula), "cubes.txt": lines(cubes)}
-    made = [refuted(dimacs(clauses)) for _, clauses in parts(formula, cubes)]
+    made = [refuted(part_text(clauses)) for _, clauses in parts(formula, cubes)]
     files.update({f"parts/{number}.receipt": receipt for number, receipt in enumerate(made)})
     path = f"{tries.folder / 'bin'}:{os.environ['PATH']}"
     tries.wants("the command of SCALE", files, ["-c", command], 0, verified(3), "", program="sh", env={**os.environ, "PATH": path})
@@ -225,7 +230,7 @@ def many(tries):
     count = 11
     cubes = [[name * sign for name, sign in zip(range(1, count + 1), signs)] for signs in itertools.product((1, -1), repeat=count)]
     formula = [[count + 1], [-count - 1]]
-    receipts = [refuted(dimacs(clauses)) for _, clauses in parts(formula, cubes)]
+    receipts = [refuted(part_text(clauses)) for _, clauses in parts(formula, cubes)]
     tries.judged("many cubes", dimacs(formula), lines(cubes), receipts, None)
     tries.judged("many cubes", dimacs(formula), lines(cubes), receipts[:-1], "the closing part")
     names = [f"p cnf {number} 0\n" for number in range(2000)]

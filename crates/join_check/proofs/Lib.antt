@@ -1,4 +1,5 @@
 pub mod Digesting
+pub mod Hashing
 pub mod PartLines
 pub mod Parting
 pub mod Running

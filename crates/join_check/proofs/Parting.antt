@@ -6,26 +6,26 @@ use Rattle.std.proofs.lemmas.List.Elements.{All-append, All-cons, All-map, All-n
 use Rattle.cube_rules.specs.Cubes.{clause_against, units_of}
 use Rattle.receipts.specs.Joins.{IsPartShown, part_text, parts_of}
 use Rattle.receipts.specs.declared.receipt.Receipt.{Receipt}
-use Rattle.sat_formula.specs.Lines.{outcome_of}
-use Rattle.sat_formula.specs.Outcome.{Ended}
 use Rattle.sha2.specs.Sha256.{sha256}
 use Rattle.join_check.specs.Digests.{HasShown, is_shown}
+use Rattle.join_check.specs.Parts.{ArePartTexts, IsPartDigest}
 use Rattle.join_check.specs.Verdicts.{IsUnshown}
 use Rattle.join_check.specs.declared.digests.ShownDigests.{ShownDigests}
+use Rattle.join_check.specs.declared.part_texts.PartTexts.{PartTexts}
 
 -- a part whose digest is among those that are shown
-pub shown_by : (formula added : List (List ℕ)) (digest : List ℕ) (receipts : List Receipt) (shown : ShownDigests) (is : Bool) → digest ≡ sha256 (part_text formula added)
-    → outcome_of (part_text formula added) ≡ (formula ++ added, Ended) → is ≡ is_shown shown digest → HasShown receipts shown → is ≡ true → IsPartShown receipts formula added
-shown_by formula added digest receipts shown is e read g all some = record {
-  read = read;
-  shown = all.sound (sha256 (part_text formula added)) (rw e at (sym g ∙ some));
+pub shown_by : (texts : PartTexts) (formula added : List (List ℕ)) (digest : List ℕ) (receipts : List Receipt) (shown : ShownDigests) → IsPartDigest texts added digest
+    → ArePartTexts formula texts → HasShown receipts shown → is_shown shown digest ≡ true → IsPartShown receipts formula added
+shown_by texts formula added digest receipts shown of are all some = record {
+  read = of.read formula are;
+  shown = all.sound (sha256 (part_text formula added)) (rw (of.digests formula are) at some);
 }
 
 -- one whose digest is not among them
-pub unshown_by : (formula added : List (List ℕ)) (digest : List ℕ) (receipts : List Receipt) (shown : ShownDigests) (is : Bool) → digest ≡ sha256 (part_text formula added)
-    → is ≡ is_shown shown digest → HasShown receipts shown → is ≡ false → IsUnshown receipts formula added
-unshown_by formula added digest receipts shown is e g all none h =
-    false≢true (sym none ∙ g ∙ rw e (all.whole (sha256 (part_text formula added)) h))
+pub unshown_by : (texts : PartTexts) (formula added : List (List ℕ)) (digest : List ℕ) (receipts : List Receipt) (shown : ShownDigests) → IsPartDigest texts added digest
+    → ArePartTexts formula texts → HasShown receipts shown → is_shown shown digest ≡ false → IsUnshown receipts formula added
+unshown_by texts formula added digest receipts shown of are all none h =
+    false≢true (sym none ∙ rw (of.digests formula are) (all.whole (sha256 (part_text formula added)) h))
 
 -- the first of those to come is one of those before
 pub one_over : {A : Type 0} (all before left rest : List A) (x : A) → all ≡ before ++ left → left ≡ x ∷ rest → all ≡ (before ++ x ∷ []) ++ rest

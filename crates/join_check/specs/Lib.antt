@@ -1,4 +1,5 @@
 pub mod Digests
+pub mod Hashed
 pub mod Parts
 pub mod Runs
 pub mod Texts

@@ -1,27 +1,24 @@
--- The texts of the parts of a formula, of which all with one header begin alike.
---     numbers_text vars count      a header with these numbers
---     HasBegun lines text      a hasher has taken a header and these lines
+-- The texts of the parts of a formula, which all begin with the lines of its clauses.
 --     ArePartTexts formula texts      they are the texts of this formula's parts
-use Rattle.std.specs.Prelude.{◌≡◌, ◌++◌, ◌∷◌, [], ℕ, List, length, codes, decimal, All}
+--     IsPartDigest texts added digest      of the text of the part that has these clauses in addition, which is read as the part
+use Rattle.std.specs.Prelude.{◌≡◌, ℕ, List, ◌++◌, All}
 use Rattle.sha2.specs.Hashers.{Holds256}
-use Rattle.sat_formula.specs.Formula.{var_count_of}
+use Rattle.sha2.specs.Sha256.{sha256}
+use Rattle.sat_formula.specs.Lines.{outcome_of}
+use Rattle.sat_formula.specs.Outcome.{Ended}
 use Rattle.sat_output.specs.FormulaTexts.{clauses_text}
-use Rattle.sat_output.specs.Words.{IsCode, spaced_word}
-use Rattle.join_check.specs.declared.part_texts.BegunText.{BegunText}
+use Rattle.sat_output.specs.Words.{IsCode}
+use Rattle.receipts.specs.Joins.{part_text}
 use Rattle.join_check.specs.declared.part_texts.PartTexts.{PartTexts}
 
--- with its LF
-abbrev pub numbers_text : ℕ → ℕ → List ℕ
-numbers_text vars count = codes "p cnf " ++ spaced_word (decimal vars) ++ decimal count ++ 10 ∷ []
-
--- the header has the numbers that are kept with the hasher
-abbrev pub HasBegun : List ℕ → BegunText → Type 0
-HasBegun lines text = Holds256 text.hasher (numbers_text text.var_count text.clause_count ++ lines)
-
--- the formula's numbers and lines, and texts that were begun with these lines
+-- the hasher has taken these lines, and all literals can be read
 pub record ArePartTexts (formula : List (List ℕ)) (texts : PartTexts) : Type 0 where
-  pub vars : texts.var_count ≡ var_count_of formula
-  pub count : texts.clause_count ≡ length formula
-  pub lines : texts.lines.items ≡ clauses_text formula
+  pub lines : Holds256 texts.hasher (clauses_text formula)
   pub small : All (All IsCode) formula
-  pub begun : All (HasBegun (clauses_text formula)) texts.begun.items
+
+-- the formula whose texts they are
+pub record IsPartDigest (texts : PartTexts) (added : List (List ℕ)) (digest : List ℕ) : Type 0 where
+  pub digests : (formula : List (List ℕ)) → ArePartTexts formula texts
+      → digest ≡ sha256 (part_text formula added)
+  pub read : (formula : List (List ℕ)) → ArePartTexts formula texts
+      → outcome_of (part_text formula added) ≡ (formula ++ added, Ended)

@@ -6,8 +6,7 @@ ghost use Rattle.join_check.specs.Verdicts.{IsCubesVerdict, IsFirstUnshown, IsTe
 
 use crate::digests::ShownDigests;
 use crate::part_texts::PartTexts;
-use crate::parts::{first_unshown, is_part_shown};
-use crate::splitting::clauses_against;
+use crate::parts::first_unshown;
 use crate::verdict::{Unshown, Verdict};
 use receipts::Receipt;
 use sat_formula::CnfFormula;
@@ -39,28 +38,28 @@ pub(crate) fn judge_cubes(
     ensures { IfOk result (IsCubesVerdict receipts.now formula.now cubes.now) }
 {
     let shown = ShownDigests::of(alloc, receipts)?;
-    let mut texts = PartTexts::of(alloc, formula)?;
-    match first_unshown(alloc, &mut texts, cubes, &shown)? {
+    let texts = PartTexts::of(alloc, formula)?;
+    match first_unshown(alloc, &texts, cubes, &shown)? {
         Some(number) => Ok(Verdict::NotVerified(Unshown::Cube(number))),
-        None => judge_closing(alloc, &mut texts, cubes, receipts, &shown),
+        None => judge_closing(alloc, &texts, cubes, receipts, &shown),
     }
 }
 
 /// Returns the verdict where the parts of all cubes are shown.
 fn judge_closing(
     alloc: Global,
-    texts: &mut PartTexts,
+    texts: &PartTexts,
     cubes: &CnfFormula,
     receipts: &[Receipt],
     shown: &ShownDigests,
 ) -> Result<Verdict, AllocError>
-    ensures { IfOk result (λ verdict. (formula : List (List ℕ)) → ArePartTexts formula texts.old
+    ensures { IfOk result (λ verdict. (formula : List (List ℕ)) → ArePartTexts formula texts.now
         → HasShown receipts.now shown.now
         → IsFirstUnshown receipts.now formula cubes.now None
         → IsCubesVerdict receipts.now formula cubes.now verdict) }
 {
-    let closing = clauses_against(alloc, cubes)?;
-    if is_part_shown(alloc, texts, &closing, shown)? {
+    let digest = texts.closing_digest(alloc, cubes)?;
+    if shown.has(&digest) {
         Ok(verified(receipts))
     } else {
         Ok(Verdict::NotVerified(Unshown::Closing))

@@ -8,6 +8,7 @@
 mod digests;
 mod fault;
 mod judging;
+mod line_hasher;
 mod part_texts;
 mod parts;
 mod run;

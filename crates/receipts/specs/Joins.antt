@@ -14,7 +14,7 @@ use Rattle.cube_rules.specs.Cubes as cubes
 use Rattle.sat_formula.specs.Lines.{outcome_of}
 use Rattle.sat_formula.specs.Outcome.{Ended}
 use Rattle.sat_formula.specs.Refuted.{IsRefuted}
-use Rattle.sat_output.specs.FormulaTexts.{formula_text}
+use Rattle.sat_output.specs.FormulaTexts.{clauses_text}
 use Rattle.receipts.specs.Honesty.{IsHonest, StandsFor}
 use Rattle.receipts.specs.declared.receipt.Receipt.{Receipt}
 use Rattle.receipts.specs.declared.receipt.Receipt.TheVariants.{Refuted, Carries}
@@ -39,9 +39,9 @@ ShownIsRefuted = (text_of : List ℕ → List ℕ) (receipts : List Receipt) (te
 abbrev pub parts_of : List (List ℕ) → List (List (List ℕ))
 parts_of cubes = map units_of cubes ++ map clause_against cubes ∷ []
 
--- a header with the numbers of the part, the clauses of the formula, and those of the part, a line for each
+-- the clauses of the formula, and then those of the part, a line for each, without a header: so all parts begin alike
 abbrev pub part_text : List (List ℕ) → List (List ℕ) → List ℕ
-part_text formula added = formula_text (formula ++ added)
+part_text formula added = clauses_text (formula ++ added)
 
 -- the text of the part is read as its clauses, and the receipts show its digest
 pub record IsPartShown (receipts : List Receipt) (formula added : List (List ℕ)) : Type 0 where

@@ -1,5 +1,5 @@
 -- What is written of a formula is read again.
-use Rattle.std.proofs.Common.{◌≡◌, ℕ, ◌+◌, ◌^◌, ◌<◌, ◌≤◌, true, false, List, [], ◌∷◌, ◌++◌, length, refl, sym, ap, append_assoc, append-nil, arith}
+use Rattle.std.proofs.Common.{◌≡◌, ℕ, Bool, ◌+◌, ◌^◌, ◌<◌, ◌≤◌, true, false, List, [], ◌∷◌, ◌++◌, length, refl, sym, ap, append_assoc, append-nil, arith}
 use Rattle.std.specs.Prelude.{All, codes, decimal, fold, map, max, nat_le, eqb}
 use Rattle.std.specs.List.{list_all}
 use Rattle.std.proofs.lemmas.Bool.{le-ltb, ne_eqb}
@@ -11,7 +11,7 @@ use Rattle.sat_formula.specs.Lines.{TokenLine, is_header, kind_of_line, lines_fr
 use Rattle.sat_formula.specs.Outcome.{Ended, Outcome, next_line, with_clause}
 use Rattle.sat_formula.specs.Vars.{lit_code}
 use Rattle.sat_formula.proofs.WrittenWords.{IsWord, decimal_is, decimal_is_word, digits_value, lines_of-line, literal_by, literal_is_word, word_in_line, words_are, words_of-last, words_of-word, zero_is_word}
-use Rattle.sat_output.specs.FormulaTexts.{FormulaIsRead, clause_text, clauses_text, header_text}
+use Rattle.sat_output.specs.FormulaTexts.{ClausesAreRead, FormulaIsRead, clause_text, clauses_text, header_text}
 use Rattle.sat_output.specs.Words.{IsCode, literal_text, spaced_word}
 use Rattle.sat_output.proofs.SpacedWords.{first_of_spaced, one_line-spaced, words_of-spaced}
 
@@ -57,9 +57,10 @@ clause_kind : (c : List ℕ) → All IsCode c → kind_of_line (clause_text c) �
 clause_kind [] all = refl
 clause_kind (l ∷ c) all = rw first_of_spaced (literal_kind l _ (All-head IsCode l c all))
 
-one_clause : (n : ℕ) (c : List ℕ) (ls : List (List ℕ)) → All IsCode c → lines_from n true [] (clause_text c ∷ ls) ≡ with_clause c (lines_from (next_line n) true [] ls)
+-- whether or not a header came before
+one_clause : (n : ℕ) (seen : Bool) (c : List ℕ) (ls : List (List ℕ)) → All IsCode c → lines_from n seen [] (clause_text c ∷ ls) ≡ with_clause c (lines_from (next_line n) true [] ls)
 unfolding lines_from
-one_clause n c ls all =
+one_clause n seen c ls all =
     rw (clause_kind c all, words_of-spaced (map literal_text c) (codes "0") (clause_words c all) zero_is_word)
     (tokens_read (next_line n) [] c (λ still. lines_from (next_line n) true still ls) all)
 
@@ -70,7 +71,17 @@ clauses_read n (c ∷ cs) all =
     let this = All-head (All IsCode) c cs all in
     let in_line = one_line-spaced (map literal_text c) (codes "0") (clause_words c this) zero_is_word in
     let rest = clauses_read (next_line n) cs (All-tail (All IsCode) c cs all) in
-    rw (lines_of-line (clause_text c) (clauses_text cs) in_line, one_clause n c (lines_of (clauses_text cs)) this, rest) refl
+    rw (lines_of-line (clause_text c) (clauses_text cs) in_line, one_clause n true c (lines_of (clauses_text cs)) this, rest) refl
+
+-- without a header
+pub clauses_are_read : ClausesAreRead
+unfolding lines_from
+clauses_are_read [] all = refl
+clauses_are_read (c ∷ cs) all =
+    let this = All-head (All IsCode) c cs all in
+    let in_line = one_line-spaced (map literal_text c) (codes "0") (clause_words c this) zero_is_word in
+    let rest = clauses_read (next_line 0) cs (All-tail (All IsCode) c cs all) in
+    rw (lines_of-line (clause_text c) (clauses_text cs) in_line, one_clause 0 false c (lines_of (clauses_text cs)) this, rest) refl
 
 -- ---- the header
 

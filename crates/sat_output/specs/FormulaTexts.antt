@@ -2,7 +2,7 @@
 --     header_text cs      the header, without its LF
 --     clause_text c, clauses_text cs      a clause without its LF, and clauses, each with its LF
 --     formula_text cs      the whole text
---     FormulaIsRead      it is read as the formula
+--     FormulaIsRead, ClausesAreRead      it is read as the formula;  and so are the clauses without a header
 use Rattle.std.specs.Prelude.{◌≡◌, ℕ, ◌^◌, ◌<◌, List, [], ◌∷◌, ◌++◌, length, map, codes, decimal, All}
 use Rattle.sat_formula.specs.Formula.{var_count_of}
 use Rattle.sat_formula.specs.Lines.{outcome_of}
@@ -31,3 +31,8 @@ formula_text clauses = header_text clauses ++ 10 ∷ clauses_text clauses
 abbrev pub FormulaIsRead : Type 0
 FormulaIsRead = (clauses : List (List ℕ)) → length clauses < 2 ^ 64 → All (All IsCode) clauses →
     outcome_of (formula_text clauses) ≡ (clauses, Ended)
+
+-- and so are its clauses alone
+abbrev pub ClausesAreRead : Type 0
+ClausesAreRead = (clauses : List (List ℕ)) → All (All IsCode) clauses →
+    outcome_of (clauses_text clauses) ≡ (clauses, Ended)

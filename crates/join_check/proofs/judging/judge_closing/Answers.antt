@@ -1,11 +1,11 @@
-use Rattle.std.proofs.Common.{refl}
+use Rattle.std.proofs.Common.{refl, sym, ◌∙◌}
 use Rattle.receipts.specs.Joins.{IsPartShown}
-use Rattle.join_check.proofs.Parting.{all_parts}
+use Rattle.join_check.proofs.Parting.{all_parts, shown_by, unshown_by}
 use Rattle.join_check.proofs.judging.judge_closing.Goals as goal
 
-pub returns-then-branch : goal.returns-then-branch
-returns-then-branch c = λ formula are all units. rw c.verified.ensures
-    (refl, all_parts (IsPartShown c.args.receipts.now formula) c.args.cubes.now units (rw c.in_ok-closing.ensures at (c.in_ok-is_part_shown.ensures.yes formula c.args.receipts.now are all c.if-branch.true)))
+pub returns-then-has : goal.returns-then-has
+returns-then-has c = λ formula are all units. rw c.verified.ensures
+    (refl, all_parts (IsPartShown c.args.receipts.now formula) c.args.cubes.now units (shown_by c.args.texts.now formula _ _ c.args.receipts.now c.args.shown.now c.in_ok-digest.ensures are all (sym c.has.ensures ∙ c.if-has.true)))
 
-pub returns : goal.returns
-returns c = λ formula are all units. (units, rw c.in_ok-closing.ensures at (c.in_ok-is_part_shown.ensures.no formula c.args.receipts.now are all c.if-branch.false))
+pub returns-else-has : goal.returns-else-has
+returns-else-has c = λ formula are all units. (units, unshown_by c.args.texts.now formula _ _ c.args.receipts.now c.args.shown.now c.in_ok-digest.ensures are all (sym c.has.ensures ∙ c.if-has.false))

@@ -7,11 +7,10 @@ use Rattle.join_check.specs.Digests.{HasShown}
 use Rattle.join_check.specs.Parts.{ArePartTexts}
 use Rattle.join_check.proofs.parts.first_unshown.Given as goal
 
--- the texts are those of the same formulas, and the parts of the cubes before those to come are shown
+-- the parts of the cubes before those to come are shown
 abbrev pub invariant-loop-cube : goal.invariant-loop-cube
 invariant-loop-cube l = record {
   counted : l.left ≡ length l.cube-iterator;
-  kept : (formula : List (List ℕ)) → ArePartTexts formula l.fn.texts → ArePartTexts formula l.texts;
   so_far : (before : List (List ℕ)) × (l.cubes ≡ before ++ l.cube-iterator)
-      × ((formula : List (List ℕ)) (receipts : List Receipt) → ArePartTexts formula l.fn.texts → HasShown receipts l.shown → All (λ other. IsPartShown receipts formula (units_of other)) before);
+      × ((formula : List (List ℕ)) (receipts : List Receipt) → ArePartTexts formula l.texts → HasShown receipts l.shown → All (λ other. IsPartShown receipts formula (units_of other)) before);
 }

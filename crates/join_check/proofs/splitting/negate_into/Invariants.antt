@@ -1,6 +1,6 @@
 use Rattle.std.proofs.Common.{◌≡◌, ◌++◌, drop}
 use Rattle.cube_rules.specs.Cubes.{clause_against}
-use Rattle.join_check.proofs.splitting.clause_against.Given as goal
+use Rattle.join_check.proofs.splitting.negate_into.Given as goal
 
 -- with the negations of the literals to come it is all
 abbrev pub invariant-loop-lit : goal.invariant-loop-lit
