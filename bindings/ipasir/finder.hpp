@@ -29,12 +29,12 @@ class Finder {
     Finder(const Finder &) = delete;
     Finder &operator=(const Finder &) = delete;
 
-    void given(uint64_t id, const Literals &clause) { add(clause, id, true); }
-    void lemma(const Literals &clause) { add(clause, 0, false); }
+    void given(uint64_t id, const Literals &clause) { add(codes(clause), id, true); }
+    void lemma(const Codes &clause) { add(clause, 0, false); }
 
-    void deletion(const Literals &clause) {
-        if (clause.size() > 1 && !is_tautology(clause)) {
-            Place found = clauses_.find(distinct_, [](const Clause &it) { return it.died == NEVER; });
+    void deletion(const Codes &clause) {
+        if (clause.size() > 1) {
+            Place found = clauses_.find(clause, [](const Clause &it) { return it.died == NEVER; });
             if (found != NEVER) {
                 refutation_.die(found);
             }
@@ -44,7 +44,7 @@ class Finder {
     // Finds hints for a core, and derives what they name. If it can't, `fault()` says why.
     bool core(const Literals &core, Ids &hints) {
         hints.clear();
-        refutation_.see(core);
+        refutation_.see(codes(core));
         refutation_.settle();
         if (contradiction_) {
             hints.push_back(contradiction_);
@@ -53,7 +53,7 @@ class Finder {
         Refs top;
         if (refutation_.is_contradictory()) {
             refutation_.explain(refutation_.conflict(), top);
-        } else if (!refutation_.refute(core, NEVER, top)) {
+        } else if (!refutation_.refute(codes_, NEVER, top)) {
             fault_ = "propagation finds no conflict for the core";
             refutation_.finish();
             return false;
@@ -78,8 +78,8 @@ class Finder {
 
     // A dead lemma with these literals may live again: it is kept when the dead are forgotten next.
     void keep(const Literals &clause) {
-        if (!is_tautology(clause)) {
-            Place found = clauses_.find(distinct_, [](const Clause &it) { return it.died != NEVER && !it.is_kept; });
+        if (!distinct_.is_tautology(codes(clause))) {
+            Place found = clauses_.find(distinct_.codes(), [](const Clause &it) { return it.died != NEVER && !it.is_kept; });
             if (found != NEVER) {
                 clauses_[found].is_kept = true;
             }
@@ -90,8 +90,8 @@ class Finder {
     Ids forget() {
         refutation_.settle();
         Refs left;
-        for (Place place = 0; place < clauses_.count(); place++) {
-            if (is_left(place) && !clauses_[place].id) {
+        for (Place place = 0; place < clauses_.end(); place = clauses_.after(place)) {
+            if (is_left(clauses_[place]) && !clauses_[place].id) {
                 left.push_back({place, 0});
             }
         }
@@ -100,10 +100,10 @@ class Finder {
             limit_ *= 2;
             return gone;
         }
-        for (Place place = 0; place < clauses_.count(); place++) {
-            (is_left(place) ? kept : gone).push_back(clauses_[place].id);
+        for (Place place = 0; place < clauses_.end(); place = clauses_.after(place)) {
+            (is_left(clauses_[place]) ? kept : gone).push_back(clauses_[place].id);
         }
-        clauses_.keep([this](Place place) { return is_left(place); });
+        clauses_.keep(is_left);
         refutation_.begin_again();
         std::sort(kept.begin(), kept.end());
         gone.erase(std::remove_if(gone.begin(), gone.end(),
@@ -119,34 +119,23 @@ class Finder {
         std::size_t begin, end;
     };
 
-    // Whether a clause has opposite literals. If not, `distinct_` has each of its literals once.
-    bool is_tautology(const Literals &clause) {
-        distinct_.clear();
-        bool is_found = false;
-        for (int literal : clause) {
-            if (marks_.size() <= code(literal) + 1) {
-                marks_.resize(2 * code(literal) + 2, 0);
-            }
-            is_found |= marks_[code(-literal)];
-            if (!marks_[code(literal)]) {
-                marks_[code(literal)] = 1;
-                distinct_.push_back(literal);
-            }
+    // These literals, in `codes_`.
+    const Codes &codes(const Literals &literals) {
+        codes_.clear();
+        for (int literal : literals) {
+            codes_.push_back(code(literal));
         }
-        for (int literal : distinct_) {
-            marks_[code(literal)] = 0;
-        }
-        return is_found;
+        return codes_;
     }
 
-    void add(const Literals &clause, uint64_t id, bool is_given) {
-        if (!contradiction_ && !is_tautology(clause)) {
-            refutation_.see(distinct_);
-            clauses_.add(distinct_, id, is_given);
+    void add(const Codes &clause, uint64_t id, bool is_given) {
+        if (!contradiction_ && !distinct_.is_tautology(clause)) {
+            refutation_.see(distinct_.codes());
+            clauses_.add(distinct_.codes(), id, is_given);
         }
     }
 
-    bool is_left(Place place) const { return clauses_[place].died == NEVER || clauses_[place].is_kept; }
+    static bool is_left(const Clause &clause) { return clause.died == NEVER || clause.is_kept; }
 
     // Derives what is named, and all that it needs.
     bool derive_all(const Refs &top) {
@@ -203,11 +192,11 @@ class Finder {
             refutation_.reasons(ref, hints_);
             return true;
         }
-        lemma_ = clauses_.copy(ref.place);
-        for (int &literal : lemma_) {
-            literal = -literal;
+        codes_.clear();
+        for (Code code : clauses_[ref.place]) {
+            codes_.push_back(opposite(code));
         }
-        if (refutation_.refute(lemma_, ref.place, hints_)) {
+        if (refutation_.refute(codes_, ref.place, hints_)) {
             return true;
         }
         fault_ = "propagation finds no conflict for a lemma of the solver";
@@ -219,7 +208,14 @@ class Finder {
         for (std::size_t at = step.begin; at < step.end; at++) {
             ids_.push_back(id(hints_[at]));
         }
-        lemma_ = step.ref.unit ? Literals{step.ref.unit} : clauses_.copy(step.ref.place);
+        lemma_.clear();
+        if (step.ref.unit) {
+            lemma_.push_back(literal(step.ref.unit));
+        } else {
+            for (Code code : clauses_[step.ref.place]) {
+                lemma_.push_back(literal(code));
+            }
+        }
         uint64_t id = derive_(lemma_, ids_);
         (step.ref.unit ? units_[variable(step.ref)].id : clauses_[step.ref.place].id) = id;
         if (!id) {
@@ -228,7 +224,7 @@ class Finder {
         return id;
     }
 
-    static std::size_t variable(Ref ref) { return static_cast<std::size_t>(std::abs(ref.unit)); }
+    static std::size_t variable(Ref ref) { return ref.unit >> 1; }
 
     // The id by which the checker knows it, or 0.
     uint64_t id(Ref ref) {
@@ -261,8 +257,9 @@ class Finder {
     std::vector<Step> steps_;
     Refs hints_;
     std::vector<Unit> units_;
-    std::vector<char> marks_;
-    Literals distinct_, lemma_;
+    Distinct distinct_;
+    Codes codes_;
+    Literals lemma_;
     Ids ids_;
     std::size_t limit_ = DEAD_LITERALS;
     uint64_t contradiction_ = 0;

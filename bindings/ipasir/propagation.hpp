@@ -13,25 +13,23 @@ class Propagation {
     explicit Propagation(Clauses &clauses) : clauses_(clauses) {}
 
     // 1 if the literal is true, -1 if it is false.
-    int value(int literal) const { return code(literal) < values_.size() ? values_[code(literal)] : 0; }
-    bool is_root(int literal) const { return variables_[std::abs(literal)].at < roots_; }
-    Place reason(int literal) const { return variables_[std::abs(literal)].reason; }
-    uint32_t at(int literal) const { return variables_[std::abs(literal)].at; }
+    int value(Code code) const { return code < values_.size() ? values_[code] : 0; }
+    bool is_root(Code code) const { return at(code) < roots_; }
+    Place reason(Code code) const { return variables_[code >> 1].reason; }
+    uint32_t at(Code code) const { return variables_[code >> 1].at; }
     // The place of a root.
-    Place place(int literal) const { return places_[at(literal)]; }
-    const Literals &trail() const { return trail_; }
+    Place place(Code code) const { return places_[at(code)]; }
+    const Codes &trail() const { return trail_; }
     uint32_t roots() const { return roots_; }
 
     // Makes room for the variables of some literals.
-    void see(const Literals &literals) {
-        for (int literal : literals) {
-            std::size_t variable = static_cast<std::size_t>(std::abs(literal));
-            if (variables_.size() <= variable) {
-                std::size_t size = std::max(variable + 1, 2 * variables_.size());
+    void see(const Codes &codes) {
+        for (Code code : codes) {
+            if (values_.size() <= code) {
+                std::size_t size = std::max<std::size_t>((code >> 1) + 1, values_.size());
                 variables_.resize(size);
                 values_.resize(2 * size, 0);
-                pairs_.resize(2 * size);
-                watches_.resize(2 * size);
+                lists_.resize(2 * size);
             }
         }
     }
@@ -41,7 +39,7 @@ class Propagation {
     bool add(Place place) {
         watch(place);
         const Clause &clause = clauses_[place];
-        if (is_open(place) || (clause.size && value(clauses_.literals(clause)[0]) > 0)) {
+        if (is_open(place) || (clause.size && value(*clause.begin()) > 0)) {
             return false;
         }
         heads_.push_back(place);
@@ -74,24 +72,24 @@ class Propagation {
     // Takes back the trial.
     void undo() {
         while (trail_.size() > roots_) {
-            int literal = trail_.back();
-            values_[code(literal)] = values_[code(-literal)] = 0;
+            Code code = trail_.back();
+            values_[code] = values_[opposite(code)] = 0;
             trail_.pop_back();
         }
         next_ = roots_;
     }
 
-    void assign(int literal, Place reason) {
-        values_[code(literal)] = 1;
-        values_[code(-literal)] = -1;
-        variables_[std::abs(literal)] = {reason, static_cast<uint32_t>(trail_.size())};
-        trail_.push_back(literal);
+    void assign(Code code, Place reason) {
+        values_[code] = 1;
+        values_[opposite(code)] = -1;
+        variables_[code >> 1] = {reason, static_cast<uint32_t>(trail_.size())};
+        trail_.push_back(code);
     }
 
     // Propagates by the clauses before a place. Returns whether there is a conflict.
     bool propagate(Place before) {
         while (next_ < trail_.size()) {
-            if (visit(-trail_[next_++], before)) {
+            if (visit(opposite(trail_[next_++]), before)) {
                 return true;
             }
         }
@@ -101,21 +99,20 @@ class Propagation {
     // Watches a clause by two literals: those that are not false, and else those that were made false last.
     void watch(Place place) {
         Clause &clause = clauses_[place];
-        int *literals = clauses_.literals(clause);
+        Code *codes = clause.begin();
         uint32_t open = 0;
-        for (uint32_t at = 0; at < clause.size && open < 2; at++) {
-            if (value(literals[at]) >= 0) {
-                std::swap(literals[open++], literals[at]);
+        for (uint32_t next = 0; next < clause.size && open < 2; next++) {
+            if (value(codes[next]) >= 0) {
+                std::swap(codes[open++], codes[next]);
             }
         }
         for (; open < 2 && open < clause.size; open++) {
-            auto is_before = [this](int a, int b) { return at(a) < at(b); };
-            std::swap(literals[open], *std::max_element(literals + open, literals + clause.size, is_before));
+            auto is_before = [this](Code a, Code b) { return at(a) < at(b); };
+            std::swap(codes[open], *std::max_element(codes + open, clause.end(), is_before));
         }
         if (clause.size > 1) {
-            Lists &lists = clause.size == 2 ? pairs_ : watches_;
-            lists[code(literals[0])].push_back({place, literals[1]});
-            lists[code(literals[1])].push_back({place, literals[0]});
+            lists_[codes[0]].push_back({place, clause.size == 2, codes[1]});
+            lists_[codes[1]].push_back({place, clause.size == 2, codes[0]});
         }
         clause.is_watched = true;
     }
@@ -127,14 +124,13 @@ class Propagation {
 
     // Takes what is left over out of the lists, once it is much.
     void sweep() {
-        if (left_over_ < 4 * static_cast<std::size_t>(clauses_.count())) {
+        if (left_over_ < 4 * clauses_.count()) {
             return;
         }
-        for (Lists *lists : {&pairs_, &watches_}) {
-            for (std::size_t code = 0; code < lists->size(); code++) {
-                auto &list = (*lists)[code];
-                list.erase(std::remove_if(list.begin(), list.end(), [&](const Watch &it) { return !watches(it.place, code); }), list.end());
-            }
+        for (Code code = 0; code < lists_.size(); code++) {
+            auto &list = lists_[code];
+            list.erase(std::remove_if(list.begin(), list.end(), [&](const Watch &it) { return !watches(clauses_[it.place], code); }),
+                       list.end());
         }
         left_over_ = 0;
     }
@@ -142,15 +138,13 @@ class Propagation {
     // Whether two literals of a clause that is now watched are not false.
     bool is_open(Place place) const {
         const Clause &clause = clauses_[place];
-        return clause.size > 1 && value(clauses_.literals(clause)[1]) >= 0;
+        return clause.size > 1 && value(clause.begin()[1]) >= 0;
     }
 
     // Forgets all.
     void clear() {
-        for (Lists *lists : {&pairs_, &watches_}) {
-            for (auto &list : *lists) {
-                list.clear();
-            }
+        for (List &list : lists_) {
+            list.clear();
         }
         roots_ = 0;
         left_over_ = 0;
@@ -164,29 +158,29 @@ class Propagation {
         Place reason = NEVER;
         uint32_t at = 0;
     };
+    // A clause that watches a literal, and another of its literals.
     struct Watch {
-        Place place;
-        int other;
+        Place place : 31;
+        Place is_pair : 1; // it has two literals
+        Code other;
     };
-    using Lists = std::vector<std::vector<Watch>>;
+    using List = std::vector<Watch>;
 
-    bool watches(Place place, std::size_t literal) const {
-        const Clause &clause = clauses_[place];
-        const int *literals = clauses_.literals(clause);
-        return clause.is_watched && (code(literals[0]) == literal || code(literals[1]) == literal);
+    static bool watches(const Clause &clause, Code code) {
+        return clause.is_watched && (clause.begin()[0] == code || clause.begin()[1] == code);
     }
 
     // Makes the literal of a clause a root which the roots before leave alone, and all that follows from it by the clauses up to it.
     bool head(Place place) {
         const Clause &clause = clauses_[place];
-        const int *literals = clauses_.literals(clause);
-        uint32_t first = clause.size > 1 && value(literals[0]) < 0;
-        if (!clause.size || value(literals[first]) < 0) {
+        const Code *codes = clause.begin();
+        uint32_t first = clause.size > 1 && value(codes[0]) < 0;
+        if (!clause.size || value(codes[first]) < 0) {
             conflict_ = place;
             return true;
         }
-        if (value(literals[first]) == 0) {
-            assign(literals[first], place);
+        if (value(codes[first]) == 0) {
+            assign(codes[first], place);
         }
         bool is_conflict = propagate(place + 1);
         for (; roots_ < trail_.size(); roots_++) {
@@ -197,68 +191,77 @@ class Propagation {
     }
 
     // The clauses that watch a literal which was made false: whether one of them is in conflict.
-    bool visit(int literal, Place before) {
-        for (Watch pair : pairs_[code(literal)]) {
-            int value = values_[code(pair.other)];
-            if (value > 0 || pair.place >= before || !clauses_[pair.place].is_watched) {
-                continue;
-            }
-            if (value < 0) {
-                conflict_ = pair.place;
-                return true;
-            }
-            assign(pair.other, pair.place);
-        }
-        std::vector<Watch> &list = watches_[code(literal)];
+    bool visit(Code code, Place before) {
+        List &list = lists_[code];
+        const signed char *values = values_.data();
         Watch *kept = list.data(), *it = kept, *end = it + list.size();
         bool is_conflict = false;
         while (it != end && !is_conflict) {
-            Watch watch = *kept++ = *it++;
-            if (values_[code(watch.other)] > 0 || watch.place >= before) {
+            Watch watch = *it++;
+            *kept++ = watch;
+            int value = values[watch.other];
+            if (value > 0 || watch.place >= before) {
                 continue;
             }
-            const Clause &clause = clauses_[watch.place];
-            int *literals = clauses_.literals(clause);
-            if (!clause.is_watched || (literals[0] != literal && literals[1] != literal)) {
+            if (!watch.is_pair) {
+                kept -= !follow(clauses_[watch.place], code, kept[-1], is_conflict);
+            } else if (!clauses_[watch.place].is_watched) {
                 kept--;
-                continue;
-            }
-            int other = literals[0] ^ literals[1] ^ literal;
-            int value = values_[code(other)];
-            kept[-1].other = other;
-            if (value > 0) {
-                continue;
-            }
-            uint32_t found = 2;
-            while (found < clause.size && values_[code(literals[found])] < 0) {
-                found++;
-            }
-            if (found < clause.size && values_[code(literals[found])] > 0) {
-                kept[-1].other = literals[found];
-            } else if (found < clause.size) {
-                literals[0] = other;
-                literals[1] = literals[found];
-                literals[found] = literal;
-                watches_[code(literals[1])].push_back({watch.place, other});
-                kept--;
-            } else if (value < 0) {
-                conflict_ = watch.place;
-                is_conflict = true;
             } else {
-                assign(other, watch.place);
+                is_conflict = ends(watch.place, watch.other, value);
             }
         }
-        kept = std::copy(it, end, kept);
-        list.resize(static_cast<std::size_t>(kept - list.data()));
+        if (kept != it) {
+            kept = std::copy(it, end, kept);
+            list.erase(list.begin() + (kept - list.data()), list.end());
+        }
         return is_conflict;
+    }
+
+    // All literals of a clause but one are false: whether this one is too. If not, it is made true.
+    bool ends(Place place, Code code, int value) {
+        if (value < 0) {
+            conflict_ = place;
+            return true;
+        }
+        assign(code, place);
+        return false;
+    }
+
+    // Assigns what follows from a clause. Whether it still watches the literal.
+    bool follow(Clause &clause, Code code, Watch &watch, bool &is_conflict) {
+        if (!watches(clause, code)) {
+            return false;
+        }
+        const signed char *values = values_.data();
+        Code *codes = clause.begin(), other = codes[0] ^ codes[1] ^ code;
+        int value = values[other];
+        watch.other = other;
+        if (value > 0) {
+            return true;
+        }
+        for (Code *it = codes + 2, *end = clause.end(); it != end; it++) {
+            if (values[*it] > 0) {
+                watch.other = *it;
+                return true;
+            }
+            if (values[*it] == 0) {
+                codes[0] = other;
+                codes[1] = *it;
+                *it = code;
+                lists_[codes[1]].push_back({watch.place, false, other});
+                return false;
+            }
+        }
+        is_conflict = ends(watch.place, other, value);
+        return true;
     }
 
     Clauses &clauses_;
     std::vector<signed char> values_;
     std::vector<Variable> variables_;
-    // by the literal that is watched: clauses of two literals, with the other one, and longer ones, with any other one
-    Lists pairs_, watches_;
-    Literals trail_;
+    std::vector<List> lists_; // by the literal that is watched
+    Codes trail_;
     std::vector<Place> places_, heads_;
     uint32_t roots_ = 0;
     std::size_t next_ = 0, left_over_ = 0;

@@ -7,7 +7,7 @@ namespace cefindrato_ipasir {
 // What a hint names: a clause, or a literal that is true by propagation alone from a place on.
 struct Ref {
     Place place;
-    int unit;
+    Code unit; // or 0
 };
 using Refs = std::vector<Ref>;
 
@@ -19,7 +19,14 @@ class Refutation {
     bool is_contradictory() const { return is_contradictory_; }
     Place conflict() const { return conflict_; }
 
-    void see(const Literals &literals) { trail_.see(literals); }
+    void see(const Codes &codes) {
+        trail_.see(codes);
+        for (Code code : codes) {
+            if (seen_.size() <= code >> 1) {
+                seen_.resize(code + std::size_t{1}, 0);
+            }
+        }
+    }
     uint32_t at(Ref ref) const { return ref.unit ? trail_.at(ref.unit) + 1 : 0; }
 
     // A deletion by the solver.
@@ -30,7 +37,7 @@ class Refutation {
 
     // Takes up what came since the last time: clauses, and then deletions.
     void settle() {
-        for (; settled_ < clauses_.count(); settled_++) {
+        for (; settled_ < clauses_.end(); settled_ = clauses_.after(settled_)) {
             if (clauses_[settled_].died == NEVER && !is_contradictory_ && trail_.add(settled_)) {
                 is_contradictory_ = true;
                 conflict_ = trail_.conflict();
@@ -51,7 +58,7 @@ class Refutation {
     void begin_again() {
         trail_.clear();
         dead_.clear();
-        for (Place place = 0; place < clauses_.count(); place++) {
+        for (Place place = 0; place < clauses_.end(); place = clauses_.after(place)) {
             if (clauses_[place].died != NEVER) {
                 dead_.push_back(place);
             }
@@ -63,23 +70,22 @@ class Refutation {
 
     // Whether these literals together lead to a conflict by what stands before a place; and by what. Until `finish` the places only
     // become less.
-    bool refute(const Literals &literals, Place before, Refs &refs) {
+    bool refute(const Codes &codes, Place before, Refs &refs) {
         trail_.cut(before);
         exhume(before);
-        if (attempt(literals, before, refs)) {
+        if (attempt(codes, before, refs)) {
             return true;
         }
         exhume(0);
-        return attempt(literals, before, refs);
+        return attempt(codes, before, refs);
     }
 
     // What makes a unit true.
     void reasons(Ref ref, Refs &refs) const {
         Place reason = trail_.reason(ref.unit);
-        const Clause &clause = clauses_[reason];
-        for (const int *it = clauses_.literals(clause), *end = it + clause.size; it != end; it++) {
-            if (*it != ref.unit) {
-                refs.push_back(root(-*it));
+        for (Code code : clauses_[reason]) {
+            if (code != ref.unit) {
+                refs.push_back(root(opposite(code)));
             }
         }
         refs.push_back({reason, 0});
@@ -90,20 +96,20 @@ class Refutation {
         std::size_t begin = refs.size();
         refs.push_back({conflict, 0});
         mark(conflict);
-        const Literals &trail = trail_.trail();
+        const Codes &trail = trail_.trail();
         for (std::size_t at = trail.size(); at > trail_.roots(); at--) {
-            int literal = trail[at - 1];
-            if (is_seen(literal)) {
-                seen_[variable(literal)] = 0;
-                if (trail_.reason(literal) != NEVER) {
-                    refs.push_back({trail_.reason(literal), 0});
-                    mark(trail_.reason(literal));
+            Code code = trail[at - 1];
+            if (seen_[code >> 1]) {
+                seen_[code >> 1] = 0;
+                if (trail_.reason(code) != NEVER) {
+                    refs.push_back({trail_.reason(code), 0});
+                    mark(trail_.reason(code));
                 }
             }
         }
-        for (int literal : seen_roots_) {
-            seen_[variable(literal)] = 0;
-            refs.push_back(root(literal));
+        for (Code code : seen_roots_) {
+            seen_[code >> 1] = 0;
+            refs.push_back(root(code));
         }
         seen_roots_.clear();
         std::reverse(refs.begin() + static_cast<std::ptrdiff_t>(begin), refs.end());
@@ -127,7 +133,8 @@ class Refutation {
         restored_.erase(std::unique(restored_.begin(), restored_.end()), restored_.end());
         for (Place place : restored_) {
             if (is_right && clauses_[place].died != NEVER) {
-                clauses_.add(clauses_.copy(place), clauses_[place].id, false);
+                const Clause &clause = clauses_[place];
+                clauses_.add(Codes(clause.begin(), clause.end()), clause.id, false);
             }
         }
         restored_.clear();
@@ -135,26 +142,24 @@ class Refutation {
     }
 
   private:
-    static std::size_t variable(int literal) { return static_cast<std::size_t>(std::abs(literal)); }
-    bool is_seen(int literal) const { return variable(literal) < seen_.size() && seen_[variable(literal)]; }
 
     // What makes a root true.
-    Ref root(int literal) const {
-        Place reason = trail_.reason(literal);
-        return clauses_[reason].size == 1 ? Ref{reason, 0} : Ref{trail_.place(literal), literal};
+    Ref root(Code code) const {
+        Place reason = trail_.reason(code);
+        return clauses_[reason].size == 1 ? Ref{reason, 0} : Ref{trail_.place(code), code};
     }
 
-    bool attempt(const Literals &literals, Place before, Refs &refs) {
+    bool attempt(const Codes &codes, Place before, Refs &refs) {
         bool is_refuted = false;
-        for (std::size_t at = 0; at < literals.size() && !is_refuted; at++) {
-            int value = trail_.value(literals[at]);
+        for (std::size_t at = 0; at < codes.size() && !is_refuted; at++) {
+            int value = trail_.value(codes[at]);
             if (value == 0) {
-                trail_.assign(literals[at], NEVER);
+                trail_.assign(codes[at], NEVER);
             } else if (value < 0) {
                 // (else the literal is opposite to one before, and needs no hint)
                 is_refuted = true;
-                if (trail_.is_root(literals[at])) {
-                    refs.push_back(root(-literals[at]));
+                if (trail_.is_root(codes[at])) {
+                    refs.push_back(root(opposite(codes[at])));
                 }
             }
         }
@@ -185,15 +190,11 @@ class Refutation {
 
     // What a clause of a conflict rests on is looked at next: its false literals, since a reason has one that it makes true.
     void mark(Place place) {
-        const Clause &clause = clauses_[place];
-        for (const int *it = clauses_.literals(clause), *end = it + clause.size; it != end; it++) {
-            if (seen_.size() <= variable(*it)) {
-                seen_.resize(2 * variable(*it) + 1, 0);
-            }
-            if (!seen_[variable(*it)] && trail_.value(*it) < 0) {
-                seen_[variable(*it)] = 1;
-                if (trail_.is_root(*it)) {
-                    seen_roots_.push_back(-*it);
+        for (Code code : clauses_[place]) {
+            if (!seen_[code >> 1] && trail_.value(code) < 0) {
+                seen_[code >> 1] = 1;
+                if (trail_.is_root(code)) {
+                    seen_roots_.push_back(opposite(code));
                 }
             }
         }
@@ -217,14 +218,14 @@ class Refutation {
     Place by_loose(Place before) {
         for (Place place : loose_) {
             const Clause &clause = clauses_[place];
-            const int *its = clauses_.literals(clause);
-            if (place >= before || trail_.value(its[0]) > 0 || trail_.value(its[1]) > 0) {
+            if (place >= before || trail_.value(clause.begin()[0]) > 0 || trail_.value(clause.begin()[1]) > 0) {
                 continue;
             }
-            int open = 0, count = 0;
-            for (uint32_t at = 0; at < clause.size && count < 2; at++) {
-                if (trail_.value(its[at]) >= 0) {
-                    open = its[at];
+            Code open = 0;
+            int count = 0;
+            for (const Code *it = clause.begin(); it != clause.end() && count < 2; it++) {
+                if (trail_.value(*it) >= 0) {
+                    open = *it;
                     count++;
                 }
             }
@@ -240,7 +241,7 @@ class Refutation {
 
     Clauses &clauses_;
     Propagation trail_{clauses_};
-    Literals seen_roots_;
+    Codes seen_roots_;
     std::vector<char> seen_;
     // those that died, in this order, and how many of them were taken up, and how many of them still are dead
     std::vector<Place> dead_;

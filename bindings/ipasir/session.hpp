@@ -2,7 +2,7 @@
 #pragma once
 #include "answers.hpp"
 #include "cefindrato_session.h"
-#include "clauses.hpp"
+#include "codes.hpp"
 #include <unordered_set>
 
 namespace cefindrato_ipasir {
@@ -27,6 +27,7 @@ class Session {
     }
 
     void remove(const Ids &ids) { cefindrato_delete(&session_, ids.data(), ids.size()); }
+    void remove(uint64_t id) { cefindrato_delete(&session_, &id, 1); }
 
     bool fails(const Literals &assumed, const Literals &core, const Ids &hints) {
         return is_whole() && accept(cefindrato_fails(&session_, assumed.data(), assumed.size(), core.data(), core.size(), hints.data(),

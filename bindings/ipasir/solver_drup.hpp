@@ -27,31 +27,40 @@ class Proof {
 
   private:
     static ssize_t write(void *proof, const char *bytes, size_t length) {
-        Proof &own = *static_cast<Proof *>(proof);
-        for (const char *it = bytes, *end = bytes + length; it != end; it++) {
-            own.read(static_cast<unsigned char>(*it));
-        }
+        static_cast<Proof *>(proof)->read(bytes, bytes + length);
         return static_cast<ssize_t>(length);
     }
 
-    void read(unsigned char byte) {
-        if (!kind_) {
-            kind_ = byte;
+    // Takes up the next bytes. A step may begin in one call and end in another, and so may a number.
+    void read(const char *it, const char *end) {
+        uint64_t number = number_;
+        unsigned shift = shift_;
+        for (; it != end; it++) {
+            auto byte = static_cast<unsigned char>(*it);
+            if (!kind_) {
+                kind_ = byte;
+                continue;
+            }
+            number |= static_cast<uint64_t>(byte & 127) << shift;
+            shift += 7;
+            if (!(byte & 128)) {
+                add(static_cast<Code>(number));
+                number = shift = 0;
+            }
+        }
+        number_ = number;
+        shift_ = shift;
+    }
+
+    // A literal, or the 0 that ends a step.
+    void add(Code code) {
+        if (code) {
+            step_.push_back(code);
             return;
         }
-        number_ |= static_cast<uint64_t>(byte & 127) << shift_;
-        shift_ += 7;
-        if (byte & 128) {
-            return;
-        }
-        if (number_) {
-            step_.push_back(number_ & 1 ? -static_cast<int>(number_ >> 1) : static_cast<int>(number_ >> 1));
-        } else {
-            kind_ == 'd' ? finder_.deletion(step_) : finder_.lemma(step_);
-            step_.clear();
-            kind_ = 0;
-        }
-        number_ = shift_ = 0;
+        kind_ == 'd' ? finder_.deletion(step_) : finder_.lemma(step_);
+        step_.clear();
+        kind_ = 0;
     }
 
     Finder &finder_;
@@ -59,7 +68,7 @@ class Proof {
     unsigned char kind_ = 0;
     uint64_t number_ = 0;
     unsigned shift_ = 0;
-    Literals step_;
+    Codes step_;
 };
 
 class Solver : CaDiCaL::WitnessIterator {

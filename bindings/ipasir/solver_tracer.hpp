@@ -117,7 +117,7 @@ class Solver : CaDiCaL::Tracer {
 
     template <class Id> void remove(Id id) {
         if (!weakened_.count(static_cast<uint64_t>(id))) {
-            session_.remove({static_cast<uint64_t>(id)});
+            session_.remove(static_cast<uint64_t>(id));
         }
     }
 

@@ -11,7 +11,7 @@ named_by c = clause_of c.named
 
 -- the clauses that were given, in their order
 abbrev pub given_by : SessionChecker → List (List ℕ)
-given_by c = c.given
+given_by c = c.given.clauses
 
 -- the buffer of literals has little that belongs to no clause
 abbrev pub HoldsLittle : SessionChecker → Type 0

@@ -1,6 +1,8 @@
 pub mod Causes
 pub mod Held
 pub mod Lines
+pub mod Meeting
+pub mod Numbered
 pub mod Propagating
 pub mod Refusals
 pub mod Rows

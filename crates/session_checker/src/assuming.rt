@@ -27,13 +27,6 @@ pub(crate) fn are_true(values: &Values, lits: &[Lit]) -> bool
     lits.iter().all(|lit| values.is_true(*lit))
 }
 
-/// Returns whether some literal of the clause is true.
-pub(crate) fn meets(values: &Values, clause: &[Lit]) -> bool
-    ensures { result ≡ list_any (among values.now) clause.now }
-{
-    clause.iter().any(|lit| values.is_true(*lit))
-}
-
 /// Returns whether the negation of one of these literals is true.
 pub(crate) fn are_opposite(values: &Values, lits: &[Lit]) -> bool
     ensures { result ≡ list_any (λ l. among values.now (negate l)) lits.now }

@@ -1,21 +1,23 @@
 //! The checker of a session.
 ghost use Rattle.std.specs.Prelude.{◌≡◌, ◌∷◌, ◌++◌, ◌==◌, ℕ, [], None, Some, is_some, if◌then◌else◌, IfErr, IfOk, OnErr, OnOk};
-ghost use Rattle.std.specs.Option.{option_copied, option_map};
+ghost use Rattle.std.specs.Option.{option_copied};
 ghost use Rattle.sat_rules.specs.Clauses.{has};
 ghost use Rattle.session_rules.specs.Sessions.{Fails, Satisfies};
-ghost use Rattle.clause_table.specs.Named.{TakesLittle, clause_of};
+ghost use Rattle.clause_table.specs.Named.{clause_of};
 ghost use Rattle.clause_table.specs.Values.{among};
 ghost use Rattle.session_checker.specs.Causes.{IsCause};
-ghost use Rattle.session_checker.specs.Refusals.{clause_cause, core_cause, id_cause, hints_cause, lemma_cause, misses_clause, model_cause};
+ghost use Rattle.session_checker.specs.Refusals.{core_cause, id_cause, hints_cause, lemma_cause, model_cause};
 ghost use Rattle.session_checker.specs.Rules.{AllFollow, listed};
 ghost use Rattle.sat_rules.specs.Named.{negated_set};
 ghost use Rattle.lrat_rules.specs.Propagation.{propagate};
 
-use crate::assuming::{are_opposite, are_true, meets, set_alone};
+use crate::assuming::{are_opposite, are_true, set_alone};
 use crate::fault::{SessionCause, SessionFault};
+use crate::given::GivenClauses;
+use crate::numbered::store;
 use crate::propagation::refute;
 use clause_table::{NamedClauses, Values};
-use sat_formula::{CnfFormula, Lit};
+use sat_formula::Lit;
 use std::alloc::{AllocError, Global};
 
 /// Checks the answers of a session, each over the clauses that were given before it.
@@ -23,12 +25,12 @@ use std::alloc::{AllocError, Global};
 /// A call that returns an error leaves the session as it was, and later calls go on from there.
 #[derive(Drop)]
 pub struct SessionChecker {
-    given: CnfFormula,
+    given: GivenClauses,
     named: NamedClauses,
     values: Values,
     /// How many literals were stored so far.
     lits_stored: u64,
-    ghost sound: { AllFollow given (clause_of named) },
+    ghost sound: { AllFollow given.clauses (clause_of named) },
 }
 
 impl SessionChecker {
@@ -45,7 +47,7 @@ impl SessionChecker {
         ensures tight { IfOk result (λ checker. HoldsLittle checker) }
     {
         Ok(SessionChecker {
-            given: CnfFormula::new(alloc),
+            given: GivenClauses::new(alloc)?,
             named: NamedClauses::new(alloc, 0)?,
             values: Values::new(alloc),
             lits_stored: 0,
@@ -86,7 +88,7 @@ impl SessionChecker {
             return Err(SessionFault::Refused(SessionCause::IdTaken));
         }
         store(&mut self.named, id, clause)?;
-        match self.given.add_clause(clause) {
+        match self.given.add(clause) {
             Ok(()) => {
                 self.lits_stored = self.lits_stored.saturating_add(clause.len() as u64);
                 Ok(())
@@ -207,7 +209,8 @@ impl SessionChecker {
         if !are_true(&self.values, assumed) {
             return Err(SessionFault::Refused(SessionCause::MissesAssumption));
         }
-        match self.unmet() {
+        let unmet = self.given.unmet(&self.values)?;
+        match unmet {
             Some(number) => Err(SessionFault::Refused(SessionCause::MissesClause(number))),
             None => Ok(()),
         }
@@ -231,37 +234,5 @@ impl SessionChecker {
     {
         let lits = self.lits_stored.saturating_add(lits.len() as u64);
         self.values.allow(lits);
-    }
-
-    /// Returns the number of the first clause of the application without a true literal, from 1 on,
-    /// if there is one.
-    fn unmet(&self) -> Option<u64>
-        ensures { option_map misses_clause result
-            ≡ clause_cause 1 (among self.now.values) (given_by self.now) }
-    {
-        let mut left = self.given.len();
-        for clause in &self.given {
-            left -= 1;
-            if !meets(&self.values, clause) {
-                return Some((self.given.len() - left) as u64);
-            }
-        }
-        None
-    }
-}
-
-/// Stores a clause under an id. After an error the clauses are as they were.
-fn store(named: &mut NamedClauses, id: u64, clause: &[Lit]) -> Result<(), AllocError>
-    ensures put { OnOk result ((k : ℕ) → clause_of named.new k
-        ≡ (if k == id then Some clause.now else clause_of named.old k)) }
-    ensures err { OnErr result ((k : ℕ) → clause_of named.new k ≡ clause_of named.old k) }
-    ensures tight { TakesLittle named.old → TakesLittle named.new }
-{
-    match named.put(id, clause) {
-        Ok(()) => Ok(()),
-        Err(_) => {
-            named.collect_garbage();
-            Err(AllocError)
-        }
     }
 }

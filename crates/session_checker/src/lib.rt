@@ -5,7 +5,9 @@
 mod assuming;
 mod checker;
 mod fault;
+mod given;
 pub mod laws;
+mod numbered;
 mod propagation;
 
 pub use checker::SessionChecker;

@@ -8,7 +8,7 @@ use Rattle.session_checker.proofs.checker.SessionChecker.delete.Given as goal
 abbrev pub invariant-loop-id : goal.invariant-loop-id
 invariant-loop-id l = record {
   given : l.self.given ≡ l.fn.self.given;
-  follow : AllFollow l.self.given (clause_of l.self.named);
+  follow : AllFollow l.self.given.clauses (clause_of l.self.named);
   named : (k : ℕ) → cond (has k (drop l.id-index l.ids)) None (clause_of l.self.named k)
       ≡ cond (has k l.ids) None (clause_of l.fn.self.named k);
 }
