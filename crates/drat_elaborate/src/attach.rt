@@ -9,6 +9,24 @@ use crate::trail::{Trail, Value};
 use crate::watches::{Watch, Watches};
 
 impl Propagator {
+    /// Allocates lists of the lengths that they have once all clauses so far are watched.
+    pub(crate) fn make_lists(&mut self) -> Result<(), ElaborateFault> {
+        let mut counts = Vec::new(self.alloc);
+        counts.resize(self.trail.lit_count(), 0u32)?;
+        for index in 0..self.clauses.len() {
+            let found = *self.clauses.get(ClauseIndex::new(index)?)?;
+            if found.is_tautology {
+                continue;
+            }
+            if let [first, second, ..] = self.clauses.arena.lits(found.block)? {
+                count(counts.as_mut_slice(), *first);
+                count(counts.as_mut_slice(), *second);
+            }
+        }
+        self.unused.reserve(&counts)?;
+        Ok(())
+    }
+
     /// Watches the first two literals of a clause.
     pub(crate) fn watch(&mut self, clause: &Clause) -> Result<(), ElaborateFault> {
         let block = clause.block;
@@ -40,6 +58,7 @@ impl Propagator {
     pub(crate) fn lists_of(&mut self, used: Use) -> &mut Watches {
         match used {
             Use::Never | Use::Wanted => &mut self.unused,
+            Use::Dying => &mut self.dying.watches,
             Use::Before => &mut self.used,
             Use::Lately | Use::Now => &mut self.lately,
         }
@@ -52,7 +71,7 @@ impl Propagator {
         let used = found.used;
         if used == Use::Now || used == Use::Lately || !found.is_watched {
             found.used = Use::Now;
-            return Ok(used == Use::Never);
+            return Ok(used.is_none());
         }
         self.watch_lately(clause, used)
     }
@@ -61,9 +80,10 @@ impl Propagator {
     /// it was never used before.
     fn watch_lately(&mut self, clause: ClauseIndex, used: Use) -> Result<bool, ElaborateFault> {
         self.recent.remove(clause);
+        self.dying.note_need(used);
         self.change_use(clause, Use::Now)?;
         self.used_lately.push(clause)?;
-        Ok(used == Use::Never)
+        Ok(used.is_none())
     }
 
     /// Moves the watches of a clause to the lists of those with this use.
@@ -123,11 +143,13 @@ impl Propagator {
 
     /// Undoes a deletion: the clause is live again.
     pub(crate) fn restore(&mut self, clause: ClauseIndex) -> Result<(), ElaborateFault> {
-        let found = self.clauses.restore(clause)?;
+        let mut found = self.clauses.restore(clause)?;
         if found.is_watched {
+            found.used = self.use_of_restored(clause, found.used)?;
+            *self.clauses.get_mut(clause)? = found;
             choose_watches(self.clauses.arena.lits_mut(found.block)?, &self.trail);
             self.watch(&found)?;
-            if found.used.shares_lists(Use::Never) {
+            if found.used.is_none() || found.used == Use::Wanted {
                 self.recent.insert(clause)?;
             }
         }
@@ -173,6 +195,13 @@ impl Propagator {
             }
             WatchStanding::True | WatchStanding::Open => Ok(None),
         }
+    }
+}
+
+/// Counts a literal.
+fn count(counts: &mut [u32], lit: LocalLit) {
+    if let Some(count) = counts.get_mut(lit.place()) {
+        *count = count.saturating_add(1);
     }
 }
 

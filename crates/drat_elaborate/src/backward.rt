@@ -98,7 +98,7 @@ impl Backward {
             Some(Step::Add(clause)) => {
                 self.undo_addition(propagator, steps, clause)?;
                 self.given.drop_last_of(clause);
-                Ok(())
+                propagator.begin_deletions(steps.pop_batch(), steps.len())
             }
             Some(Step::Delete(clause)) => propagator.restore(clause),
             Some(Step::Nothing) | None => Ok(()),

@@ -85,6 +85,8 @@ impl ClauseLink {
 #[derive(Clone, Copy, PartialEq, Eq)]
 pub(crate) enum Use {
     Never,
+    /// It was not used, and is among the clauses that are visited last.
+    Dying,
     /// It was not used, but it is a target clause of the piece.
     Wanted,
     /// It was not used in the last round of checks.
@@ -96,10 +98,17 @@ pub(crate) enum Use {
 }
 
 impl Use {
+    /// Returns whether it is no target clause, and used by nothing.
+    #[inline(always)]
+    pub(crate) fn is_none(self) -> bool {
+        self == Use::Never || self == Use::Dying
+    }
+
     /// Returns whether clauses of the two uses are watched in the same lists.
     pub(crate) fn shares_lists(self, other: Use) -> bool {
         match self {
             Use::Never | Use::Wanted => other == Use::Never || other == Use::Wanted,
+            Use::Dying => other == Use::Dying,
             Use::Before => other == Use::Before,
             Use::Lately | Use::Now => other == Use::Lately || other == Use::Now,
         }
@@ -126,7 +135,7 @@ pub(crate) struct Clause {
 impl Clause {
     /// Returns whether it is a target clause, or used by the conflict or by a clause of the core.
     pub(crate) fn is_core(&self) -> bool {
-        self.used != Use::Never
+        !self.used.is_none()
     }
 
     /// Returns whether it is live and used, so that RAT and PR checks have to visit it.

@@ -179,7 +179,7 @@ impl Elaborator {
         let Some(conflict) = self.forward.conflict else {
             if self.wanted.is_piece {
                 self.phase = Phase::Checking;
-                self.forward.end();
+                self.forward.end()?;
                 self.backward.begin_piece(self.forward.formula_len);
                 return Ok(());
             }
@@ -188,7 +188,7 @@ impl Elaborator {
             });
         };
         self.phase = Phase::Checking;
-        self.forward.end();
+        self.forward.end()?;
         self.backward.begin(
             &mut self.forward.propagator,
             self.forward.formula_len,

@@ -11,7 +11,7 @@ use crate::steps::{Step, Steps};
 use crate::trail::Value;
 use crate::variables::Variables;
 use sat_formula::Lit;
-use std::alloc::Global;
+use std::alloc::{AllocError, Global};
 
 /// The state of the forward pass.
 #[derive(Drop)]
@@ -70,6 +70,7 @@ impl Forward {
     pub(crate) fn begin(&mut self) -> Result<(), ElaborateFault> {
         self.table.enter_all(&mut self.propagator.clauses)?;
         self.steps.begin(self.formula_len)?;
+        self.propagator.make_lists()?;
         for index in 0..self.formula_len {
             self.watch_formula_clause(ClauseIndex::new(index)?)?;
         }
@@ -84,13 +85,15 @@ impl Forward {
         Ok(())
     }
 
-    /// Frees the memory that only the forward pass needs.
-    pub(crate) fn end(&mut self) {
+    /// Frees the memory that only the forward pass needs, and allocates what only the backward pass
+    /// does.
+    pub(crate) fn end(&mut self) -> Result<(), AllocError> {
         self.variables.end();
         self.table = ClauseTable::new(self.alloc);
         self.names = Names::new(self.alloc);
         self.lits = Vec::new(self.alloc);
         self.set = LitSet::new(self.alloc);
+        self.propagator.make_room_for_used()
     }
 
     /// Watches a clause of the formula that has two literals or more and is no tautology.

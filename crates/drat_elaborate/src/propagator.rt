@@ -1,14 +1,15 @@
 //! Unit propagation over two watched literals, first in the clauses that are used.
 use crate::arena::{Arena, Block};
 use crate::clauses::{ClauseIndex, Clauses};
+use crate::dying::Dying;
 use crate::fault::ElaborateFault;
 use crate::local::LocalLit;
 use crate::recent::Recent;
 use crate::stale::StaleLists;
 use crate::standing::Standing;
-use crate::sweep::{Sweep, len_of, sweep_list, sweep_whole};
+use crate::sweep::{Sweep, sweep_list, sweep_whole};
 use crate::trail::Trail;
-use crate::watches::Watches;
+use crate::watches::{Watches, len_of};
 use std::alloc::{AllocError, Global};
 
 /// The highest bit of 64.
@@ -17,7 +18,7 @@ const HIGHEST: u64 = 1 << 63;
 /// The clauses, their watches and the trail.
 #[derive(Drop)]
 pub(crate) struct Propagator {
-    alloc: Global,
+    pub(crate) alloc: Global,
     pub(crate) clauses: Clauses,
     pub(crate) trail: Trail,
     /// The watches of the clauses that were used lately, which are visited first.
@@ -26,6 +27,8 @@ pub(crate) struct Propagator {
     pub(crate) used: Watches,
     /// Those of the others.
     pub(crate) unused: Watches,
+    /// Unused clauses that are visited last.
+    pub(crate) dying: Dying,
     /// The clauses that are watched in `lately`.
     pub(crate) used_lately: Vec<ClauseIndex>,
     pub(crate) recent: Recent,
@@ -68,6 +71,8 @@ struct Heads {
     used: Head,
     /// In the others.
     unused: Head,
+    /// In those that are visited last.
+    dying: Head,
     /// The recent lemmas were looked at up to here.
     recent: usize,
 }
@@ -89,6 +94,7 @@ impl Propagator {
             lately: Watches::new(alloc),
             used: Watches::new(alloc),
             unused: Watches::new(alloc),
+            dying: Dying::new(alloc),
             used_lately: Vec::new(alloc),
             recent: Recent::new(alloc),
             stale: StaleLists::new(alloc),
@@ -103,6 +109,7 @@ impl Propagator {
         self.lately = Watches::new(self.alloc);
         self.used = Watches::new(self.alloc);
         self.unused = Watches::new(self.alloc);
+        self.dying = Dying::new(self.alloc);
         self.used_lately = Vec::new(self.alloc);
         self.recent = Recent::new(self.alloc);
         self.stale = StaleLists::new(self.alloc);
@@ -114,9 +121,15 @@ impl Propagator {
             return Ok(());
         }
         self.trail.make_room(count)?;
+        self.unused.make_room(count)
+    }
+
+    /// Allocates lists for the clauses that will be used, which the backward pass needs.
+    pub(crate) fn make_room_for_used(&mut self) -> Result<(), AllocError> {
+        let count = self.trail.lit_count() / 2;
         self.lately.make_room(count)?;
         self.used.make_room(count)?;
-        self.unused.make_room(count)
+        self.dying.watches.make_room(count)
     }
 
     /// Propagates the trail from a position on. Returns the clause of a conflict, if there is one.
@@ -128,6 +141,7 @@ impl Propagator {
             lately: from,
             used: Head::at(from),
             unused: Head::at(from),
+            dying: Head::at(from),
             recent: from,
         };
         // Each step but the last makes a literal true.
@@ -159,7 +173,12 @@ impl Propagator {
             heads.recent = self.trail.len();
         }
         let (arena, trail) = (&mut self.clauses.arena, &mut self.trail);
-        advance_to_unit(arena, trail, &mut self.unused, &mut heads.unused)
+        match advance_to_unit(arena, trail, &mut self.unused, &mut heads.unused)? {
+            Progress::Done if !self.dying.is_empty() => {
+                advance_to_unit(arena, trail, &mut self.dying.watches, &mut heads.dying)
+            }
+            progress => Ok(progress),
+        }
     }
 
     /// Propagates the trail to its end in the clauses that were used lately. Returns the clause of
@@ -230,7 +249,8 @@ fn advance_to_unit(
             break;
         };
         let end = head.end.min(len_of(watches.all(), !lit));
-        match sweep_list(arena.words_mut(), trail, watches.all(), !lit, end)? {
+        let (alloc, words, growing) = (watches.alloc(), arena.words_mut(), &mut trail.growing());
+        match sweep_list(alloc, words, growing, watches.all(), !lit, end)? {
             Sweep::End => {
                 let next = head.place.saturating_add(1);
                 head.go_to(next);
@@ -254,12 +274,15 @@ fn sweep_on(
     watches: &mut Watches,
     from: usize,
 ) -> Result<Option<Block>, ElaborateFault> {
+    let alloc = watches.alloc();
     let (words, lists) = (arena.words_mut(), watches.all());
-    for place in from..trail.lit_count() {
-        let Some(lit) = trail.get(place) else {
+    let count = trail.lit_count();
+    let mut growing = trail.growing();
+    for place in from..count {
+        let Some(lit) = growing.get(place) else {
             break;
         };
-        if let Some(block) = sweep_whole(words, trail, lists, !lit)? {
+        if let Some(block) = sweep_whole(alloc, words, &mut growing, lists, !lit)? {
             return Ok(Some(block));
         }
     }

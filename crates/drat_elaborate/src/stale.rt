@@ -64,6 +64,7 @@ impl Propagator {
         for place in 0..self.stale.lits.len() {
             if let Some(lit) = self.stale.lits.get(place).copied() {
                 self.refresh_list(Use::Never, lit)?;
+                self.refresh_list(Use::Dying, lit)?;
                 self.refresh_list(Use::Before, lit)?;
                 self.refresh_list(Use::Now, lit)?;
             }
@@ -74,9 +75,7 @@ impl Propagator {
 
     /// Cleans the list of a literal for clauses of this use.
     fn refresh_list(&mut self, used: Use, lit: LocalLit) -> Result<(), ElaborateFault> {
-        let Some(mut watches) = self.lists_of(used).take(lit) else {
-            return Ok(());
-        };
+        let mut watches = self.lists_of(used).take(lit);
         self.keep_current(&mut watches, used, lit)?;
         for watch in &watches {
             self.clauses.arena.turn_mark(watch.block())?;

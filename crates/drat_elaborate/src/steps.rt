@@ -4,6 +4,9 @@ use crate::clauses::{ClauseIndex, ClauseLink, narrow};
 use crate::fault::ElaborateFault;
 use std::alloc::Global;
 
+/// This many deletions with no addition among them are a batch.
+const BATCH: u32 = 100;
+
 /// A step of the proof.
 #[derive(Clone, Copy)]
 pub(crate) enum Step {
@@ -34,6 +37,10 @@ pub(crate) struct Steps {
     /// The clause that the last step added.
     last_added: ClauseLink,
     growths: Vec<Growth>,
+    /// How many deletions there are after the last addition.
+    deletions: u32,
+    /// The numbers of the last steps of batches.
+    batches: Vec<u32>,
 }
 
 impl Steps {
@@ -51,6 +58,8 @@ impl Steps {
             clauses: 0,
             last_added: ClauseLink::none(),
             growths: Vec::new(alloc),
+            deletions: 0,
+            batches: Vec::new(alloc),
         }
     }
 
@@ -73,12 +82,14 @@ impl Steps {
     pub(crate) fn push(&mut self, step: Step) -> Result<(), ElaborateFault> {
         let number = match step {
             Step::Add(clause) => {
+                self.end_deletions()?;
                 self.clauses = clause.number().wrapping_add(1);
                 self.last_added = ClauseLink::to(clause);
                 Steps::ADD
             }
             Step::Delete(clause) => {
                 self.last_added = ClauseLink::none();
+                self.deletions = self.deletions.saturating_add(1);
                 self.clauses
                     .wrapping_sub(clause.number())
                     .wrapping_add(Steps::DELETE)
@@ -91,6 +102,27 @@ impl Steps {
         self.numbers.push(number)?;
         self.len = self.len.saturating_add(1);
         Ok(())
+    }
+
+    /// Notes whether the deletions after the last addition are a batch.
+    fn end_deletions(&mut self) -> Result<(), ElaborateFault> {
+        if self.deletions >= BATCH {
+            self.batches.push(narrow(self.len as usize)?)?;
+        }
+        self.deletions = 0;
+        Ok(())
+    }
+
+    /// Returns whether the steps right before the one that was taken off last, which was an
+    /// addition, end with a batch.
+    pub(crate) fn pop_batch(&mut self) -> bool {
+        match self.batches.last().copied() {
+            Some(end) if end as u64 == self.len => {
+                self.batches.pop();
+                true
+            }
+            _ => false,
+        }
     }
 
     /// Notes that the last step extended the trail, which had this length before.

@@ -21,6 +21,37 @@ struct Cause {
     place: u32,
 }
 
+/// The parts of a trail that grows while its values are read.
+#[derive(Drop)]
+pub(crate) struct Growing<'a> {
+    pub(crate) values: &'a mut [Value],
+    causes: &'a mut [Cause],
+    lits: &'a mut Vec<LocalLit>,
+}
+
+impl<'a> Growing<'a> {
+    /// Returns the literal at a position, if there is one.
+    #[inline(always)]
+    pub(crate) fn get(&self, place: usize) -> Option<LocalLit> {
+        self.lits.get(place).copied()
+    }
+
+    /// Assigns an unassigned literal, with the clause that implies it, or no block if it is
+    /// assumed.
+    #[inline(always)]
+    pub(crate) fn assign(&mut self, lit: LocalLit, reason: Block) -> Result<(), ElaborateFault> {
+        let place = narrow(self.lits.len())?;
+        self.lits.push(lit)?;
+        set_value(self.values, lit, Value::True);
+        set_value(self.values, !lit, Value::False);
+        match self.causes.get_mut(lit.variable()) {
+            Some(cause) => *cause = Cause { reason, place },
+            None => return Err(ElaborateFault::Internal),
+        }
+        Ok(())
+    }
+}
+
 /// The true literals in order.
 #[derive(Drop)]
 pub(crate) struct Trail {
@@ -99,19 +130,21 @@ impl Trail {
         }
     }
 
+    /// Returns the parts, to assign literals while the values are read.
+    #[inline(always)]
+    pub(crate) fn growing(&mut self) -> Growing<'_> {
+        Growing {
+            values: self.values.as_mut_slice(),
+            causes: self.causes.as_mut_slice(),
+            lits: &mut self.lits,
+        }
+    }
+
     /// Assigns an unassigned literal, with the clause that implies it, or no block if it is
     /// assumed.
     #[inline(always)]
     pub(crate) fn assign(&mut self, lit: LocalLit, reason: Block) -> Result<(), ElaborateFault> {
-        let place = narrow(self.lits.len())?;
-        self.lits.push(lit)?;
-        set_value(self.values.as_mut_slice(), lit, Value::True);
-        set_value(self.values.as_mut_slice(), !lit, Value::False);
-        match self.causes.get_mut(lit.variable()) {
-            Some(cause) => *cause = Cause { reason, place },
-            None => return Err(ElaborateFault::Internal),
-        }
-        Ok(())
+        self.growing().assign(lit, reason)
     }
 
     /// Unassigns the literals from a position on.

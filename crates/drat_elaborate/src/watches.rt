@@ -77,9 +77,25 @@ impl Watches {
         Ok(())
     }
 
+    /// Allocates memory for this many more watches of each literal, by its code.
+    pub(crate) fn reserve(&mut self, counts: &[u32]) -> Result<(), AllocError> {
+        for (list, count) in self.lists.iter_mut().zip(counts) {
+            if *count > 0 {
+                list.reserve_exact(*count as usize)?;
+            }
+        }
+        Ok(())
+    }
+
     /// Adds a watch to the list of a literal.
     pub(crate) fn push(&mut self, lit: LocalLit, watch: Watch) -> Result<(), ElaborateFault> {
         push_watch(self.lists.as_mut_slice(), lit, watch)
+    }
+
+    /// Returns the allocator of the lists.
+    #[inline(always)]
+    pub(crate) fn alloc(&self) -> Global {
+        self.alloc
     }
 
     /// Returns the lists, by code of the literal.
@@ -105,28 +121,47 @@ impl Watches {
         let mut place = from;
         while place < lits.len() {
             match self.lists.get((!lits[place]).place()) {
-                Some(list) if list.is_empty() => place += 1,
-                _ => break,
+                Some(list) if !list.is_empty() => break,
+                _ => place += 1,
             }
         }
         place
     }
 
-    /// Takes the list of a literal away, until it is put back. `None` if it is empty.
-    #[inline(always)]
-    pub(crate) fn take(&mut self, lit: LocalLit) -> Option<Vec<Watch>> {
-        match self.lists.get_mut(lit.place()) {
-            Some(list) if !list.is_empty() => Some(mem::replace(list, Vec::new(self.alloc))),
-            _ => None,
-        }
+    /// Takes the list of a literal away, until it is put back.
+    pub(crate) fn take(&mut self, lit: LocalLit) -> Vec<Watch> {
+        take_list(self.alloc, self.lists.as_mut_slice(), lit)
     }
 
     /// Puts the list of a literal back.
-    #[inline(always)]
     pub(crate) fn put(&mut self, lit: LocalLit, watches: Vec<Watch>) {
-        if let Some(list) = self.lists.get_mut(lit.place()) {
-            *list = watches;
-        }
+        put_list(self.lists.as_mut_slice(), lit, watches);
+    }
+}
+
+/// Returns how many clauses a literal watches.
+#[inline(always)]
+pub(crate) fn len_of(lists: &[Vec<Watch>], lit: LocalLit) -> usize {
+    match lists.get(lit.place()) {
+        Some(list) => list.len(),
+        None => 0,
+    }
+}
+
+/// Takes the list of a literal away, until it is put back.
+#[inline(always)]
+pub(crate) fn take_list(alloc: Global, lists: &mut [Vec<Watch>], lit: LocalLit) -> Vec<Watch> {
+    match lists.get_mut(lit.place()) {
+        Some(list) => mem::replace(list, Vec::new(alloc)),
+        None => Vec::new(alloc),
+    }
+}
+
+/// Puts the list of a literal back.
+#[inline(always)]
+pub(crate) fn put_list(lists: &mut [Vec<Watch>], lit: LocalLit, watches: Vec<Watch>) {
+    if let Some(list) = lists.get_mut(lit.place()) {
+        *list = watches;
     }
 }
 
