@@ -1,25 +1,26 @@
 -- The outputs of a run, by what it has shown.
-use Rattle.std.proofs.Common.{◌≡◌, ℕ, ◌⊎◌, inl, inr, true, List, Option, Some, None, Result, Ok, Err, refl, rules, is_some}
+use Rattle.std.proofs.Common.{◌≡◌, ◌≢◌, ◌∙◌, ℕ, ◌⊎◌, inl, inr, true, List, [], Option, Some, None, Result, Ok, Err, ap, refl, subst, sym, rules, is_some, codes, false, option_and_then}
 use Rattle.std.specs.Io.Buffered.{writer_contents}
 use Rattle.std.specs.Io.KnownBytes.{Appends}
-use Rattle.std.specs.Prelude.{IfOk, IsNone}
+use Rattle.std.specs.Prelude.{IfOk, IsErr, IsNone, IsSome, OnErr}
 use Rattle.std.specs.declared.io.buffered.BufWriter.{BufWriter}
-use Rattle.command.specs.Calls.{Choice}
-use Rattle.command.specs.Outputs.{begun, written_in}
-use Rattle.drat_check.specs.Outputs.{AllWritten, bytes_in}
-use Rattle.drat_check.specs.PieceCores.{WritesPieceCore}
-use Rattle.drat_check.specs.Pieces.{WritesPiece}
+use Rattle.command.specs.Calls.{Choice, given, is_given, value_given}
+use Rattle.command.specs.Outputs.{Gives, begun, place_of, written_in}
+use Rattle.drat_check.specs.Outputs.{AllWritten, WritesFor, bytes_in}
+use Rattle.drat_check.specs.PieceCores.{CoreShown, WritesPieceCore}
+use Rattle.drat_check.specs.Pieces.{WritesPiece, WritesShown}
+use Rattle.drat_check.specs.declared.fault.RunFault.{RunFault}
 use Rattle.drat_check.specs.declared.piece_fault.PieceFault.{PieceFault}
 use Rattle.drat_check.specs.declared.outputs.Outputs.{Outputs}
-use Rattle.drat_check_main.specs.Named.{GivesAll, NamesPiece, NamesProof, ThenReceipt, core_name, form_asked, lrat_name, trim_name}
-use Rattle.drat_check_main.specs.Pieces.{KeepsPiece}
-use Rattle.piece_runs.specs.Texts.{CarriesText, OfFormula}
+use Rattle.drat_check_main.specs.Named.{GivesAll, GivesSome, GivesTwo, LeavesUnshown, NamesPiece, NamesProof, NamesSome, ThenReceipt, core_name, form_asked, lrat_name, trim_name}
+use Rattle.drat_check_main.specs.Pieces.{KeepsPiece, ShowsLine, piece_of}
+use Rattle.piece_runs.specs.Texts.{CarriesText, OfFormula, OfFormulas}
 use Rattle.receipt_files.specs.Named.{carries_of, refuted_of}
 use Rattle.sat_formula.specs.Refuted.{IsRefuted}
+use Rattle.sat_output.proofs.Beginnings.{begins_whole}
 use Rattle.sat_output.specs.declared.form.LineForm.{LineForm}
 use Rattle.verdicts.specs.Pieces.{piece_line, shows_wanted}
 use Rattle.verdicts.specs.Statuses.{status_of}
-use Rattle.verdicts.specs.Verdicts.{shows_unsat}
 use Rattle.verdicts.specs.declared.verdict.Verdict.{Verdict}
 use Rattle.verdicts.specs.declared.verdict.Verdict.TheVariants.{Verified, NotVerified}
 use Rattle.verdicts.specs.declared.piece.PieceVerdict.{PieceVerdict}
@@ -29,22 +30,152 @@ abbrev Given : Type 0
 Given = Option (List (List ℕ × List ℕ))
 
 -- the status is that of the run
+pub nonzero_from : (n m : ℕ) → n ≡ m → ◌≢◌ {A = Result ℕ ℕ} (Ok n) (Ok 0) → m ≢ 0
+nonzero_from n m e nonzero zero = nonzero (cc)
+
 pub zero_from : (n m : ℕ) → n ≡ m → ◌≡◌ {A = Result ℕ ℕ} (Ok n) (Ok 0) → m ≡ 0
 zero_from n m e well = cc
 
 pub three_from : (n m : ℕ) → n ≡ m → ◌≡◌ {A = Result ℕ ℕ} (Ok n) (Ok 3) → m ≡ 3
 three_from n m e well = cc
 
--- a run with the status 3 has shown nothing
-pub status_three : {E : Type 0} (r : Result Verdict E) → status_of shows_unsat r ≡ 3 → r ≡ Ok NotVerified
-status_three (Ok Verified) h = absurd (cc)
-status_three (Ok NotVerified) h = refl
-status_three (Err fault) h = absurd (cc)
+-- what a whole proof has shown, by the status of the piece that it is taken for
+pub whole_zero : {E : Type 0} (q : Result Verdict RunFault) (r : Result PieceVerdict E) → status_of shows_wanted r ≡ 0
+    → IfOk r (λ verdict. piece_of q ≡ Ok verdict) → (q ≡ Ok Verified) × (r ≡ Ok Refuted)
+whole_zero (Ok Verified) (Ok Refuted) zero is = (refl, refl)
+whole_zero (Ok Verified) (Ok Carried) zero is = absurd (cc)
+whole_zero (Ok NotVerified) (Ok Refuted) zero is = absurd (cc)
+whole_zero (Ok NotVerified) (Ok Carried) zero is = absurd (cc)
+whole_zero (Err fault) (Ok verdict) zero is = absurd (cc)
+whole_zero q (Ok NotCarried) zero is = absurd (cc)
+whole_zero q (Err fault) zero is = absurd (cc)
+
+pub whole_three : {E : Type 0} (q : Result Verdict RunFault) (r : Result PieceVerdict E) → status_of shows_wanted r ≡ 3
+    → IfOk r (λ verdict. piece_of q ≡ Ok verdict) → (q ≡ Ok NotVerified) × (r ≡ Ok NotCarried)
+whole_three (Ok NotVerified) (Ok NotCarried) three is = (refl, refl)
+whole_three (Ok Verified) (Ok NotCarried) three is = absurd (cc)
+whole_three (Err fault) (Ok NotCarried) three is = absurd (cc)
+whole_three q (Ok Refuted) three is = absurd (cc)
+whole_three q (Ok Carried) three is = absurd (cc)
+whole_three q (Err fault) three is = absurd (cc)
+
+-- a piece's run has no trimmed steps, if its options exclude them
+value_is_given : (choice : Option Choice) (value : List ℕ) → option_and_then (λ (c : Choice). c.value) choice ≡ Some value → is_some choice ≡ true
+value_is_given None value e = absurd (cc)
+value_is_given (Some c) value e = refl
+
+no_value : (choice : Option Choice) → is_some choice ≡ false → option_and_then (λ (c : Choice). c.value) choice ≡ None
+no_value None e = refl
+no_value (Some c) e = absurd (cc)
+
+pub no_trim : (options : List Choice) (value : List ℕ)
+    → (is_given options (codes "--holds") ≡ true → is_given options (codes "--trim") ≡ false)
+    → value_given options (codes "--holds") ≡ Some value → trim_name options ≡ None
+no_trim options value apart said =
+    no_value (given options (codes "--trim")) (apart (value_is_given (given options (codes "--holds")) value said))
 
 -- one word for what an output holds
 pub same_bytes : {F A : Type 0} (contents : F → Option (List ℕ)) (out : Option (BufWriter F A)) → bytes_in (writer_contents contents) out ≡ written_in contents out
 same_bytes contents None = refl
 same_bytes contents (Some w) = refl
+
+-- ---- names that were given before a fault
+
+module _ (place : List ℕ → Option (List ℕ)) (options : List Choice) (lrat trim : Option (List ℕ)) (old mid next new : Given) where
+  pub two_given : Gives old mid (place_of place (lrat_name options)) lrat
+      → Gives mid next (place_of place (trim_name options)) trim → new ≡ next → GivesTwo place options lrat trim old new
+  two_given first second same = record { with_lrat = mid; first = first; second = rw same second }
+
+  -- the receipt alone has no name
+  pub left_whole : (core : Option (List ℕ)) (line : List ℕ) (text text' : Option (List ℕ)) → Appends text text' line
+      → GivesAll place options lrat trim core old mid → new ≡ mid
+      → LeavesUnshown place options line text text' lrat trim core old new
+  left_whole core line text text' whole gives same = inr (begins_whole text text' line whole, rw same gives)
+
+-- ---- a verdict that shows nothing, or was not shown
+
+-- the bytes are known where there is a name
+abbrev IsKnown : Option (List ℕ) → Option (List ℕ) → Type 0
+IsKnown None bytes = Unit {0}
+IsKnown (Some name) None = ⊥
+IsKnown (Some name) (Some bytes) = Unit {0}
+
+abbrev known : Option (List ℕ) → List ℕ
+known None = []
+known (Some bytes) = bytes
+
+kept_known : (name new : Option (List ℕ)) → new ≡ begun name → IsKnown name new
+kept_known None new e = tt
+kept_known (Some name) None e = absurd (cc)
+kept_known (Some name) (Some bytes) e = tt
+
+appended_known : (name old new : Option (List ℕ)) (bs : List ℕ) → old ≡ begun name → Appends old new bs → IsKnown name new
+appended_known None old new bs e h = tt
+appended_known (Some name) None new bs e h = absurd (cc)
+appended_known (Some name) (Some x) None bs e h = absurd h
+appended_known (Some name) (Some x) (Some y) bs e h = tt
+
+gives_known : (place : List ℕ → Option (List ℕ)) (name bytes : Option (List ℕ)) (old new : Given) → IsKnown name bytes
+    → Gives old new (place_of place name) bytes → Gives old new (place_of place name) (Some (known bytes))
+gives_known place None bytes old new k gives = gives
+gives_known place (Some name) None old new k gives = absurd k
+gives_known place (Some name) (Some bytes) old new k gives = gives
+
+module _ (place : List ℕ → Option (List ℕ)) (options : List Choice) (old new : Given) where
+  pub names_none : new ≡ old → NamesSome place options old new
+  names_none same = record { lrat = []; trim = []; core = []; named = inl (inl same) }
+
+  module _ (lrat trim core : Option (List ℕ)) where
+    pub names_some : IsKnown (lrat_name options) lrat → IsKnown (trim_name options) trim → IsKnown (core_name options) core
+        → GivesSome place options lrat trim core old new → NamesSome place options old new
+    names_some l t c (inl (inl same)) = names_none same
+    names_some l t c (inl (inr (inl first))) = record {
+      lrat = known lrat;
+      trim = known trim;
+      core = known core;
+      named = inl (inr (inl (gives_known place (lrat_name options) lrat _ _ l first)));
+    }
+    names_some l t c (inl (inr (inr two))) = record {
+      lrat = known lrat;
+      trim = known trim;
+      core = known core;
+      named = inl (inr (inr (record {
+        with_lrat = two.with_lrat;
+        first = gives_known place (lrat_name options) lrat _ _ l two.first;
+        second = gives_known place (trim_name options) trim _ _ t two.second;
+      })));
+    }
+    names_some l t c (inr all) = record {
+      lrat = known lrat;
+      trim = known trim;
+      core = known core;
+      named = inr (record {
+        with_lrat = all.with_lrat;
+        with_trim = all.with_trim;
+        first = gives_known place (lrat_name options) lrat _ _ l all.first;
+        second = gives_known place (trim_name options) trim _ _ t all.second;
+        third = gives_known place (core_name options) core _ _ c all.third;
+      });
+    }
+
+    -- after another status than 0 there was no verdict, and nothing has its name, or there was one, and no receipt has
+    pub record IsUnkept (checked : Result PieceVerdict PieceFault) : Type 0 where
+      pub verdict : PieceVerdict
+      pub is : checked ≡ Ok verdict
+      pub some : GivesSome place options lrat trim core old new
+
+    pub unkept : (checked r : Result PieceVerdict PieceFault) (text text' : Option (List ℕ)) → status_of shows_wanted r ≢ 0
+        → IfOk r (λ verdict. checked ≡ Ok verdict) → (IsErr checked → new ≡ old)
+        → IfOk checked (λ verdict. OnErr r (LeavesUnshown place options (piece_line verdict) text text' lrat trim core old new))
+        → (r ≡ Ok NotCarried → GivesAll place options lrat trim core old new)
+        → (new ≡ old) ⊎ IsUnkept checked
+    unkept (Err fault) r text text' nonzero is unnamed left all = inl (unnamed (search rules))
+    unkept (Ok verdict) (Err fault) text text' nonzero is unnamed (inl left) all = inr (record { verdict = verdict; is = refl; some = inl left.1 })
+    unkept (Ok verdict) (Err fault) text text' nonzero is unnamed (inr left) all = inr (record { verdict = verdict; is = refl; some = inr left.1 })
+    unkept (Ok verdict) (Ok Refuted) text text' nonzero is unnamed left all = absurd (nonzero refl)
+    unkept (Ok verdict) (Ok Carried) text text' nonzero is unnamed left all = absurd (nonzero refl)
+    unkept (Ok verdict) (Ok NotCarried) text text' nonzero is unnamed left all =
+        inr (record { verdict = verdict; is = refl; some = inr (all refl) })
 
 -- ---- a whole proof
 
@@ -84,6 +215,31 @@ module _ {L C : Type 0} (lrat : L → Option (List ℕ)) (core : C → Option (L
   names_empty cnf lines steps clauses gives (inl run) = rw (← lines, ← steps, ← clauses, ← run.holds) gives
   names_empty cnf lines steps clauses gives (inr none) = absurd none
 
+  -- after a verdict all bytes are known
+  verdict_some : (cnf : Option (List ℕ)) (verdict : Verdict) → bytes_in lrat s.lrat ≡ begun (lrat_name options)
+      → bytes_in lrat s.trim ≡ begun (trim_name options) → bytes_in core s.core ≡ begun (core_name options)
+      → OfFormula cnf (λ formula. WritesFor formula lrat core s s' verdict) ⊎ ⊥
+      → GivesSome place options (bytes_in lrat s'.lrat) (bytes_in lrat s'.trim) (bytes_in core s'.core) old new
+      → NamesSome place options old new
+  verdict_some cnf Verified lines steps clauses (inl run) gives = names_some place options old new _ _ _
+      (appended_known (lrat_name options) _ _ _ lines run.holds.0.text)
+      (appended_known (trim_name options) _ _ _ steps run.holds.0.trimmed)
+      (appended_known (core_name options) _ _ _ clauses run.holds.1.text) gives
+  verdict_some cnf NotVerified lines steps clauses (inl run) gives = names_some place options old new _ _ _
+      (kept_known (lrat_name options) _ (ap (λ (o : Outputs L C). bytes_in lrat o.lrat) run.holds ∙ lines))
+      (kept_known (trim_name options) _ (ap (λ (o : Outputs L C). bytes_in lrat o.trim) run.holds ∙ steps))
+      (kept_known (core_name options) _ (ap (λ (o : Outputs L C). bytes_in core o.core) run.holds ∙ clauses)) gives
+  verdict_some cnf verdict lines steps clauses (inr none) gives = absurd none
+
+  pub whole_some : (cnf : Option (List ℕ)) (q : Result Verdict RunFault) → bytes_in lrat s.lrat ≡ begun (lrat_name options)
+      → bytes_in lrat s.trim ≡ begun (trim_name options) → bytes_in core s.core ≡ begun (core_name options)
+      → ((verdict : Verdict) → q ≡ Ok verdict → OfFormula cnf (λ formula. WritesFor formula lrat core s s' verdict) ⊎ ⊥)
+      → (new ≡ old) ⊎ IsUnkept place options old new (bytes_in lrat s'.lrat) (bytes_in lrat s'.trim) (bytes_in core s'.core) (piece_of q)
+      → NamesSome place options old new
+  whole_some cnf q lines steps clauses run (inl same) = names_none place options old new same
+  whole_some cnf (Ok verdict) lines steps clauses run (inr left) = verdict_some cnf verdict lines steps clauses (run verdict refl) left.some
+  whole_some cnf (Err fault) lines steps clauses run (inr left) = absurd (cc)
+
 -- ---- a piece
 
 -- a run over a piece with the status 0 has a verdict that shows what was wanted
@@ -97,6 +253,13 @@ status_wanted (Ok Refuted) h = record { verdict = Refuted; is = refl; shown = re
 status_wanted (Ok Carried) h = record { verdict = Carried; is = refl; shown = refl }
 status_wanted (Ok NotCarried) h = absurd (cc)
 status_wanted (Err fault) h = absurd (cc)
+
+pub shows_line : {E : Type 0} (r : Result PieceVerdict E) (old new : Option (List ℕ)) → status_of shows_wanted r ≡ 0
+    → IfOk r (λ verdict. Appends old new (piece_line verdict)) → ShowsLine old new
+shows_line (Ok Refuted) old new zero line = inr line
+shows_line (Ok Carried) old new zero line = inl line
+shows_line (Ok NotCarried) old new zero line = absurd (cc)
+shows_line (Err fault) old new zero line = absurd (cc)
 
 -- no core is made where none is wanted
 none_made : {C : Type 0} (core : Option C) (name : Option (List ℕ)) → is_some core ≡ is_some name → name ≡ None → IsNone core
@@ -124,6 +287,42 @@ module _ {C : Type 0} (core : Option C) (place : List ℕ → Option (List ℕ))
   }
   names_piece line line' (Ok verdict) shown same lines used wanted gives run (inr unread) = absurd unread.0
   names_piece line line' (Err fault) shown same lines used wanted gives run of = absurd (cc)
+
+-- after a verdict the bytes of the lines are known if no core is made, and else none were written
+lines_known : {C : Type 0} (form : LineForm) (name lrat lrat' : Option (List ℕ)) (cnf holds line line' : Option (List ℕ)) (core : Option C)
+    (verdict : PieceVerdict) → lrat ≡ begun name → (IsSome core → lrat' ≡ lrat)
+    → (IsNone core → OfFormulas cnf holds (λ formula wanted. WritesShown form formula wanted lrat lrat' verdict))
+    → IsKnown name lrat'
+lines_known form name lrat lrat' cnf holds line line' (Some w) verdict lines apart run = kept_known name lrat' (apart (search rules) ∙ lines)
+lines_known form name lrat lrat' cnf holds line line' None Refuted lines apart run =
+    appended_known name lrat lrat' _ lines (run (search rules)).holds.holds.text
+lines_known form name lrat lrat' cnf holds line line' None Carried lines apart run =
+    appended_known name lrat lrat' _ lines (run (search rules)).holds.holds.text
+lines_known form name lrat lrat' cnf holds line line' None NotCarried lines apart run =
+    kept_known name lrat' ((run (search rules)).holds.holds ∙ lines)
+
+core_known : (formula wanted : List (List ℕ)) (name core core' : Option (List ℕ)) (verdict : PieceVerdict) → core ≡ begun name
+    → CoreShown formula wanted core core' verdict → IsKnown name core'
+core_known formula wanted name core core' Refuted clauses shown = appended_known name core core' _ clauses shown.text
+core_known formula wanted name core core' Carried clauses shown = appended_known name core core' _ clauses shown.text
+core_known formula wanted name core core' NotCarried clauses same = kept_known name core' (same ∙ clauses)
+
+module _ {C : Type 0} (core : Option C) (place : List ℕ → Option (List ℕ)) (options : List Choice) (form : LineForm)
+    (lrat lrat' clauses clauses' : Option (List ℕ)) (cnf holds : Option (List ℕ)) (old new : Given) where
+  pub piece_some : (line line' : Option (List ℕ)) (r : Result PieceVerdict PieceFault)
+      → trim_name options ≡ None → lrat ≡ begun (lrat_name options) → clauses ≡ begun (core_name options)
+      → (IsSome core → lrat' ≡ lrat)
+      → (IsNone core → WritesPiece form cnf holds lrat lrat' line line' r)
+      → WritesPieceCore cnf holds clauses clauses' line line' r
+      → (new ≡ old) ⊎ IsUnkept place options old new lrat' None clauses' r
+      → NamesSome place options old new
+  piece_some line line' r none lines used apart run of (inl same) = names_none place options old new same
+  piece_some line line' (Ok verdict) none lines used apart run (inl of) (inr left) = names_some place options old new _ _ _
+      (lines_known form (lrat_name options) lrat lrat' cnf holds line line' core verdict lines apart run)
+      (subst (λ name. IsKnown name None) (sym none) tt)
+      (core_known of.formula of.holds.formula (core_name options) clauses clauses' verdict used of.holds.holds) left.some
+  piece_some line line' (Ok verdict) none lines used apart run (inr unread) (inr left) = absurd unread.0
+  piece_some line line' (Err fault) none lines used apart run of (inr left) = absurd (cc)
 
 -- ---- a receipt
 

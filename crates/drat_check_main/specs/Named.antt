@@ -1,11 +1,14 @@
 -- The files that a run names, by the options of its call.
 --     named options flag      the name that an option gives an output
 --     form_asked options      how the lines of a proof are written
---     GivesAll      three outputs got their names
+--     GivesFirst, GivesAll      the first of three outputs got their names, or none did;  all got them
+--     GivesSome      one of these two
+--     LeavesUnshown      what showing a verdict leaves that fails on its way
+--     NamesSome      a run gave no name but to outputs, to the first of them first
 --     NamesProof      the outputs of a run that refutes a formula have their names
 --     NamesPiece      those of a run over a piece that derives its target clauses
 --     ThenReceipt      and then a receipt has its name
-use Rattle.std.specs.Prelude.{◌≡◌, ℕ, if◌then◌else◌, List, Option, None, codes, true}
+use Rattle.std.specs.Prelude.{◌≡◌, ◌⊎◌, ℕ, if◌then◌else◌, List, Option, None, Some, codes, true}
 use Rattle.command.specs.Calls.{Choice, is_given, value_given}
 use Rattle.command.specs.Outputs.{begun, place_of, Gives}
 use Rattle.drat_check.specs.Outputs.{WroteCore, WroteProof}
@@ -18,6 +21,7 @@ use Rattle.sat_output.specs.declared.form.LineForm.{LineForm}
 use Rattle.sat_output.specs.declared.form.LineForm.TheVariants.{Binary, Text}
 use Rattle.verdicts.specs.Pieces.{shows_wanted}
 use Rattle.verdicts.specs.declared.piece.PieceVerdict.{PieceVerdict}
+use Rattle.whole_writes.specs.Beginnings.{AppendsBeginning}
 
 abbrev pub lrat_name : List Choice → Option (List ℕ)
 lrat_name options = value_given options (codes "--lrat")
@@ -40,6 +44,39 @@ module _ (place : List ℕ → Option (List ℕ)) (options : List Choice) where
     pub first : Gives old with_lrat (place_of place (lrat_name options)) lrat
     pub second : Gives with_lrat with_trim (place_of place (trim_name options)) trim
     pub third : Gives with_trim new (place_of place (core_name options)) core
+
+  -- first the lines, then their steps
+  pub record GivesTwo (lrat trim : Option (List ℕ)) (old new : Option (List (List ℕ × List ℕ))) : Type 0 where
+    pub with_lrat : Option (List (List ℕ × List ℕ))
+    pub first : Gives old with_lrat (place_of place (lrat_name options)) lrat
+    pub second : Gives with_lrat new (place_of place (trim_name options)) trim
+
+  -- none got its name, or the first one did, or the first two
+  abbrev pub GivesFirst : Option (List ℕ) → Option (List ℕ)
+      → Option (List (List ℕ × List ℕ)) → Option (List (List ℕ × List ℕ)) → Type 0
+  GivesFirst lrat trim old new =
+      (new ≡ old)
+      ⊎ Gives old new (place_of place (lrat_name options)) lrat
+      ⊎ GivesTwo lrat trim old new
+
+  -- the first of them or all got their names, and no other file
+  abbrev pub GivesSome : Option (List ℕ) → Option (List ℕ) → Option (List ℕ)
+      → Option (List (List ℕ × List ℕ)) → Option (List (List ℕ × List ℕ)) → Type 0
+  GivesSome lrat trim core old new = GivesFirst lrat trim old new ⊎ GivesAll lrat trim core old new
+
+  -- the line was begun only once all three had their names, and no other file got one
+  abbrev pub LeavesUnshown : List ℕ → Option (List ℕ) → Option (List ℕ) → Option (List ℕ) → Option (List ℕ) → Option (List ℕ)
+      → Option (List (List ℕ × List ℕ)) → Option (List (List ℕ × List ℕ)) → Type 0
+  LeavesUnshown line text text' lrat trim core old new =
+      ((text' ≡ text) × GivesFirst lrat trim old new)
+      ⊎ (AppendsBeginning text text' line × GivesAll lrat trim core old new)
+
+  -- files of some bytes, whose names are those of the first outputs
+  pub record NamesSome (old new : Option (List (List ℕ × List ℕ))) : Type 0 where
+    pub lrat : List ℕ
+    pub trim : List ℕ
+    pub core : List ℕ
+    pub named : GivesSome (Some lrat) (Some trim) (Some core) old new
 
   -- lines that refute the formula were written, their steps, and a part of the formula, each where it is wanted, and these files have their names now
   pub record NamesProof (old new : Option (List (List ℕ × List ℕ))) (formula : List (List ℕ)) : Type 0 where

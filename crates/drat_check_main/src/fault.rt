@@ -12,11 +12,23 @@ pub(crate) fn unread_wanted(fault: io::Error) -> PieceFault {
     PieceFault::Wanted(DimacsFault::of_error(fault))
 }
 
+/// Returns the place of a run's fault. Target clauses have the name that `--holds` gives.
 pub(crate) fn place_of<'a>(
-    fault: &RunFault,
+    fault: &PieceFault,
     format: ProofFormat,
     call: &'a Call<'_>,
 ) -> FaultPlace<'a> {
+    match fault {
+        PieceFault::Run(fault) => place_in_run(fault, format, call),
+        PieceFault::Wanted(fault) => match call.value("--holds") {
+            Some(holds) => FaultPlace::in_wanted(holds, fault),
+            None => FaultPlace::Elsewhere,
+        },
+        PieceFault::Lost => FaultPlace::Elsewhere,
+    }
+}
+
+fn place_in_run<'a>(fault: &RunFault, format: ProofFormat, call: &'a Call<'_>) -> FaultPlace<'a> {
     match fault {
         RunFault::Formula(fault) => FaultPlace::in_formula(fault),
         RunFault::Proof(_) if format == ProofFormat::Lpr => FaultPlace::LratProof,
@@ -28,20 +40,7 @@ pub(crate) fn place_of<'a>(
     }
 }
 
-pub(crate) fn place_in_piece<'a>(
-    fault: &PieceFault,
-    format: ProofFormat,
-    holds: &'a str,
-    call: &'a Call<'_>,
-) -> FaultPlace<'a> {
-    match fault {
-        PieceFault::Run(fault) => place_of(fault, format, call),
-        PieceFault::Wanted(fault) => FaultPlace::in_wanted(holds, fault),
-        PieceFault::Lost => FaultPlace::Elsewhere,
-    }
-}
-
-/// Whether a formula of a piece was not read whole.
+/// Whether a formula was not read whole.
 pub(crate) fn is_unread(fault: &PieceFault) -> bool {
     matches!(
         fault,

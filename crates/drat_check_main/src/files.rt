@@ -1,39 +1,38 @@
 //! A whole proof, in a file.
-ghost use Rattle.std.specs.Prelude.{◌≡◌, ℕ, List, [], Ok, Some, IfErr, IfOk, IsErr};
+ghost use Rattle.std.specs.Prelude.{◌≡◌, ◌≢◌, ℕ, List, [], Ok, Some, IfErr};
 ghost use Rattle.std.specs.Io.KnownBytes.{Appends};
-ghost use Rattle.std.specs.Io.Buffered.{writer_contents};
 ghost use Rattle.command.specs.Calls.{choices_of};
 ghost use Rattle.command.specs.Inputs.{bytes_named};
-ghost use Rattle.command.specs.Outputs.{begun, written_in};
-ghost use Rattle.drat_check.specs.Outputs.{bytes_in};
-ghost use Rattle.drat_check_main.specs.Named.{GivesAll, NamesProof, ThenReceipt, core_name, lrat_name, trim_name};
+ghost use Rattle.command.specs.Outputs.{begun};
+ghost use Rattle.drat_check_main.specs.Named.{GivesAll, NamesProof, NamesSome, ThenReceipt, core_name, lrat_name, trim_name};
 ghost use Rattle.piece_runs.specs.Texts.{OfFormula};
-ghost use Rattle.receipt_files.specs.Named.{IsDigestOf, receipt_name, refuted_of};
+ghost use Rattle.receipt_files.specs.Named.{refuted_of};
 ghost use Rattle.sat_formula.specs.Refuted.{IsRefuted};
 ghost use Rattle.verdicts.specs.Verdicts.{shown_line};
-ghost use Rattle.verdicts.specs.declared.verdict.Verdict.TheVariants.{NotVerified, Verified};
+ghost use Rattle.verdicts.specs.declared.verdict.Verdict.TheVariants.{Verified};
 
 use crate::about::ABOUT;
-use crate::fault::{place_of, say_stats, unread_formula};
-use crate::outputs::{Finished, create_outputs, name_outputs};
+use crate::fault::{is_unread, place_of, say_stats, unread_formula};
+use crate::outputs::{Finished, create_outputs};
+use crate::shown::{as_piece, show};
 use command::{
     Call, Cost, FaultPlace, InputNames, NOT_RUN, OutputSystem, ReadFile, StatsForm, WrittenFiles,
     open_inputs, progress_of, say_fault, warn_of_header,
 };
-use drat_check::{ProofFormat, RunFault, exit_status, run_check};
-use receipt_files::{hold_digested, keep_refuted};
+use drat_check::{ProofFormat, exit_status, run_check};
+use receipt_files::hold_digested;
 use std::io;
-use std::io::{BufWriter, Write};
-use verdicts::{Verdict, write_line};
+use std::io::Write;
 
 /// Checks a proof. The files that are written are made once both others are open, and before
 /// anything is read. They have their names before the verdict's line is written, and a receipt
 /// after it. The formula is read whole, and let go once its clauses are taken.
-pub(crate) fn check_files<S: OutputSystem, W: Write>(
-    system: &S,
-    names: InputNames<'_>,
+#[tactic(auto, using(crate::proofs::Naming::names_none))]
+pub(crate) fn check_files<'a, S: OutputSystem, W: Write>(
+    system: &'a S,
+    names: InputNames<'a>,
     format: ProofFormat,
-    call: &Call<'_>,
+    call: &'a Call<'_>,
     given: &mut S::Names,
     out: &mut W,
 ) -> Result<u8, u8>
@@ -53,6 +52,8 @@ pub(crate) fn check_files<S: OutputSystem, W: Write>(
         (begun (lrat_name (choices_of call.now))) (begun (trim_name (choices_of call.now)))
         (begun (core_name (choices_of call.now))) (S.renamed given.old) (S.renamed given.new) }
     ensures unnamed { IfErr result (λ status. S.renamed given.new ≡ S.renamed given.old) }
+    ensures unkept { S.unwritten system.now ≡ Some [] → result ≢ Ok 0
+        → NamesSome (S.place system.now) (choices_of call.now) (S.renamed given.old) (S.renamed given.new) }
 {
     let cost = Cost::from_now(system);
     let (cnf, proof) = open_inputs(system, names.cnf, names.other).ok_or(NOT_RUN)?;
@@ -89,72 +90,17 @@ pub(crate) fn check_files<S: OutputSystem, W: Write>(
         core: outputs.core,
         receipt,
     };
-    let outcome = show(
-        system, &files, call, finished, cnf.digest, checked, given, out,
-    );
+    let digests = (cnf.digest, None);
+    let checked = as_piece(checked);
+    let outcome = show(system, &files, call, finished, digests, checked, given, out);
     if let Err(fault) = &outcome {
         say_fault(system, names, fault, place_of(fault, format, call));
     }
     warn_of_header(system, names.cnf, &lie);
     if let Some(form) = StatsForm::of(call)
-        && !matches!(outcome, Err(RunFault::Formula(_)))
+        && !outcome.as_ref().is_err_and(is_unread)
     {
         say_stats(system, form, counts, cost);
     }
     Ok(exit_status(&outcome))
-}
-
-/// Gives the outputs of a run that has a verdict their names, then writes the verdict's line, and
-/// then keeps the receipt, of a formula of this digest.
-///
-/// # Errors
-///
-/// That of the run, after which nothing has its name and nothing is written; or `Write` with the
-/// rename or the write that failed.
-fn show<S: OutputSystem, W: Write>(
-    system: &S,
-    files: &WrittenFiles<'_, S>,
-    call: &Call<'_>,
-    outputs: Finished<S::Output>,
-    digest: Option<[u8; 32]>,
-    checked: Result<Verdict, RunFault>,
-    given: &mut S::Names,
-    out: &mut W,
-) -> Result<Verdict, RunFault>
-    ensures verdict { IfOk result (λ verdict. checked ≡ Ok verdict) }
-    ensures line { IfOk result (λ verdict.
-        Appends (W.contents out.old) (W.contents out.new) (shown_line verdict)) }
-    ensures named { result ≡ Ok NotVerified → GivesAll
-        (S.place files.now.system.now) (choices_of call.now)
-        (bytes_in (writer_contents S.Output.contents) outputs.lrat)
-        (bytes_in (writer_contents S.Output.contents) outputs.trim)
-        (bytes_in (writer_contents S.Output.contents) outputs.core) (S.renamed given.old) (S.renamed given.new) }
-    ensures receipt { (text : List ℕ) → IsDigestOf digest text
-        → written_in S.Output.contents outputs.receipt ≡ begun (receipt_name (choices_of call.now))
-        → result ≡ Ok Verified
-        → ThenReceipt (S.place files.now.system.now) (choices_of call.now) (refuted_of text)
-        (GivesAll (S.place files.now.system.now) (choices_of call.now)
-        (bytes_in (writer_contents S.Output.contents) outputs.lrat)
-        (bytes_in (writer_contents S.Output.contents) outputs.trim)
-        (bytes_in (writer_contents S.Output.contents) outputs.core) (S.renamed given.old))
-        (S.renamed given.new) }
-    ensures unnamed { IsErr checked → S.renamed given.new ≡ S.renamed given.old }
-    ensures silent { IsErr checked → out.new ≡ out.old }
-{
-    let verdict = match checked {
-        Ok(verdict) => verdict,
-        Err(fault) => return Err(fault),
-    };
-    let receipt = match name_outputs(files, call, outputs, given) {
-        Ok(receipt) => receipt,
-        Err(fault) => return Err(RunFault::Write(fault)),
-    };
-    match write_line(out, verdict) {
-        Ok(()) => {}
-        Err(fault) => return Err(RunFault::Write(fault)),
-    }
-    match keep_refuted(system.alloc(), files, call, receipt, digest, verdict, given) {
-        Ok(()) => Ok(verdict),
-        Err(fault) => Err(RunFault::Write(fault)),
-    }
 }

@@ -13,13 +13,13 @@
 //! nothing is.
 #![tactic(auto)]
 
-ghost use Rattle.std.specs.Prelude.{◌≡◌, ℕ, List, [], ◌∷◌, None, Ok, Some, codes, false, IfErr};
+ghost use Rattle.std.specs.Prelude.{◌≡◌, ◌≢◌, ℕ, List, [], ◌∷◌, None, Ok, Some, codes, false, true, IfErr, IfOk};
 ghost use Rattle.std.specs.Io.KnownBytes.{Appends};
 ghost use Rattle.command.specs.Calls.{choices_of, is_given, operands_of, value_given};
 ghost use Rattle.command.specs.Inputs.{bytes_named};
 ghost use Rattle.command.specs.Outputs.{begun};
-ghost use Rattle.drat_check_main.specs.Named.{GivesAll, NamesPiece, NamesProof, ThenReceipt, core_name, lrat_name, trim_name};
-ghost use Rattle.drat_check_main.specs.Pieces.{KeepsPiece, ShowsPiece};
+ghost use Rattle.drat_check_main.specs.Named.{GivesAll, NamesPiece, NamesProof, NamesSome, ThenReceipt, core_name, lrat_name, trim_name};
+ghost use Rattle.drat_check_main.specs.Pieces.{KeepsPiece, ShowsLine, ShowsPiece};
 ghost use Rattle.piece_runs.specs.Texts.{OfFormula};
 ghost use Rattle.receipt_files.specs.Named.{refuted_of};
 ghost use Rattle.sat_formula.specs.Refuted.{IsRefuted};
@@ -32,6 +32,7 @@ mod fault;
 mod files;
 mod outputs;
 mod piece;
+mod shown;
 
 use crate::about::ABOUT;
 use crate::example::check_example;
@@ -50,6 +51,7 @@ fn main(rt: HostRuntime) -> ExitCode {
 }
 
 /// Runs a call in a system, with `out` as its standard output.
+#[tactic(auto, using(crate::proofs::Naming::names_none))]
 fn run<S: OutputSystem, W: Write>(
     system: &S,
     call: &Call<'_>,
@@ -98,7 +100,10 @@ fn run<S: OutputSystem, W: Write>(
         → KeepsPiece (S.place system.now) (choices_of call.now) text wanted
         (W.contents out.old) (W.contents out.new) (NamesPiece (S.place system.now) (choices_of call.now)
         (Some text) (Some wanted) (S.renamed given.old)) (S.renamed given.new) }
+    ensures shown { result ≡ Ok 0 → ShowsLine (W.contents out.old) (W.contents out.new) }
     ensures unnamed { IfErr result (λ status. S.renamed given.new ≡ S.renamed given.old) }
+    ensures unkept { S.unwritten system.now ≡ Some [] → result ≢ Ok 0
+        → NamesSome (S.place system.now) (choices_of call.now) (S.renamed given.old) (S.renamed given.new) }
 {
     if call.has("--example") {
         return Ok(check_example(system, out));
@@ -116,7 +121,10 @@ fn run<S: OutputSystem, W: Write>(
 /// # Errors
 ///
 /// The exit status 2 if options exclude each other.
-fn format_of<S: OutputSystem>(system: &S, call: &Call<'_>) -> Result<ProofFormat, u8> {
+fn format_of<S: OutputSystem>(system: &S, call: &Call<'_>) -> Result<ProofFormat, u8>
+    ensures trim { IfOk result (λ format. is_given (choices_of call.now) (codes "--holds") ≡ true
+        → is_given (choices_of call.now) (codes "--trim") ≡ false) }
+{
     let format = match (call.has("--drat"), call.has("--frat"), call.has("--lpr")) {
         (false, false, false) => ProofFormat::Told,
         (true, false, false) => ProofFormat::Drat,

@@ -5,7 +5,7 @@ ghost use Rattle.std.specs.Io.Buffered.{writer_contents};
 ghost use Rattle.command.specs.Calls.{choices_of};
 ghost use Rattle.command.specs.Outputs.{begun};
 ghost use Rattle.drat_check.specs.Outputs.{bytes_in};
-ghost use Rattle.drat_check_main.specs.Named.{GivesAll, core_name, form_asked, lrat_name, trim_name};
+ghost use Rattle.drat_check_main.specs.Named.{GivesAll, GivesFirst, core_name, form_asked, lrat_name, trim_name};
 ghost use Rattle.verdicts.specs.Verdicts.{shown_line};
 
 use command::{Call, OutputSystem, ReadFile, WrittenFiles};
@@ -73,8 +73,9 @@ pub(crate) struct Finished<F: io::Write + Drop> {
 ///
 /// # Errors
 ///
-/// That of the first write or rename that fails.
-#[tactic(auto, using(crate::proofs::Naming::same_bytes))]
+/// That of the first write or rename that fails. The outputs before it have their names then, and
+/// no other one.
+#[tactic(auto, using(crate::proofs::Naming::same_bytes, crate::proofs::Naming::two_given))]
 pub(crate) fn name_outputs<S: OutputSystem>(
     files: &WrittenFiles<'_, S>,
     call: &Call<'_>,
@@ -87,6 +88,10 @@ pub(crate) fn name_outputs<S: OutputSystem>(
         (bytes_in (writer_contents S.Output.contents) outputs.lrat)
         (bytes_in (writer_contents S.Output.contents) outputs.trim)
         (bytes_in (writer_contents S.Output.contents) outputs.core) (S.renamed given.old) (S.renamed given.new)) }
+    ensures first { OnErr result (GivesFirst
+        (S.place files.now.system.now) (choices_of call.now)
+        (bytes_in (writer_contents S.Output.contents) outputs.lrat)
+        (bytes_in (writer_contents S.Output.contents) outputs.trim) (S.renamed given.old) (S.renamed given.new)) }
 {
     files.name_wanted(given, call.value("--lrat"), outputs.lrat)?;
     files.name_wanted(given, call.value("--trim"), outputs.trim)?;

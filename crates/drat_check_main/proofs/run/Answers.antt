@@ -1,5 +1,7 @@
-use Rattle.std.proofs.Common.{◌≡◌, Some}
+use Rattle.std.proofs.Common.{◌≡◌, Some, codes}
+use Rattle.command.specs.Calls.{choices_of, value_given}
 use Rattle.command.specs.Inputs.{bytes_named}
+use Rattle.drat_check_main.proofs.Naming.{no_trim}
 use Rattle.drat_check_main.proofs.run.Goals as goal
 
 -- the names are those of the call
@@ -32,3 +34,10 @@ returns-in-None-clause-outputs g c cnf proof text operands alone none known fres
     let formula : bytes_named (g.S.System.file_bytes c.args.system.now)
     (g.S.System.input_bytes c.args.system.now) c.in_ok-names.names.cnf.now ≡ Some text = cc in
     c.check_files.ensures.outputs text formula fresh well
+
+-- a piece's options exclude a file of trimmed steps
+pub returns-in-Some-clause-unkept : goal.returns-in-Some-clause-unkept
+returns-in-Some-clause-unkept g c fresh other =
+    let value = c.in-Some.ensures in
+    let said : value_given (choices_of c.args.call.now) (codes "--holds") ≡ Some c.in-Some.holds.now = cc in
+    c.check_piece.ensures.unkept fresh (no_trim (choices_of c.args.call.now) c.in-Some.holds.now (c.in_ok-format.ensures.trim) said) other

@@ -1,4 +1,4 @@
-use Rattle.std.proofs.Common.{◌≡◌, ◌∙◌, ℕ, List, [], arith, Option, None, Some}
+use Rattle.std.proofs.Common.{◌≡◌, ◌∙◌, ℕ, List, [], ap, arith, Option, None, Some}
 use Rattle.std.proofs.lemmas.Grind.{common_steps}
 use Rattle.std.specs.Io.Buffered.{writer_contents}
 use Rattle.command.specs.Calls.{choices_of}
@@ -6,19 +6,26 @@ use Rattle.command.specs.Held.{held_in}
 use Rattle.command.specs.Outputs.{begun, written_in}
 use Rattle.drat_check.specs.Outputs.{bytes_in}
 use Rattle.drat_check_main.specs.Named.{GivesAll, NamesPiece}
-use Rattle.drat_check_main.proofs.Naming.{keeps_piece, names_piece, status_wanted, zero_from}
+use Rattle.drat_check_main.proofs.Naming.{keeps_piece, names_piece, nonzero_from, piece_some, shows_line, status_wanted, unkept, zero_from}
 use Rattle.drat_check_main.proofs.piece.check_piece.Goals as goal
 use Rattle.receipt_files.specs.Named.{IsDigestOf, receipt_name}
 use Rattle.verdicts.specs.Pieces.{shows_wanted}
 use Rattle.verdicts.specs.Statuses.{status_of}
 
+-- the line is that of one of the only verdicts with this status
+pub returns-clause-line : goal.returns-clause-line
+returns-clause-line g c well =
+    let status = c.exit_status.ensures in
+    let zero = zero_from c.exit_status.result (status_of shows_wanted c.show-outcome.result) status well in
+    shows_line c.show-outcome.result (g.W.Write.contents c.args.out.now) (g.W.Write.contents c.show-outcome.new.out) zero c.show-outcome.ensures.line
+
 -- the outputs are those of the only verdicts with this status, and so is the receipt
 pub returns-clause-outputs : goal.returns-clause-outputs
 returns-clause-outputs g c text wanted known other fresh well =
     let status = c.exit_status.ensures in
-    let zero = zero_from c.exit_status.result (status_of shows_wanted c.show_piece-outcome.result) status well in
-    let shown = status_wanted c.show_piece-outcome.result zero in
-    let checked = rw shown.is at c.show_piece-outcome.ensures.verdict in
+    let zero = zero_from c.exit_status.result (status_of shows_wanted c.show-outcome.result) status well in
+    let shown = status_wanted c.show-outcome.result zero in
+    let checked = rw shown.is at c.show-outcome.ensures.verdict in
     let first = c.new-files.ensures.system in
     let second = c.create_outputs.ensures.system ∙ first in
     let same = c.create_wanted.ensures.system ∙ second in
@@ -47,14 +54,31 @@ returns-clause-outputs g c text wanted known other fresh well =
     let options = choices_of c.args.call.now in
     let place = g.S.OutputSystem.place c.args.system.now in
     let before = g.S.OutputSystem.renamed c.args.given.now in
-    let named = g.S.OutputSystem.renamed c.show_piece-outcome.new.given in
+    let named = g.S.OutputSystem.renamed c.show-outcome.new.given in
     keeps_piece place options text wanted _ _ (NamesPiece place options (Some text) (Some wanted) before) named
-    c.show_piece-outcome.result zero c.show_piece-outcome.ensures.line
-    (λ carried. let kept = rw same at (c.show_piece-outcome.ensures.carried text wanted taken taken_next empty carried) in (
-      c.run_piece-checked.ensures.carries text wanted formula target (rw carried at c.show_piece-outcome.ensures.verdict),
+    c.show-outcome.result zero c.show-outcome.ensures.line
+    (λ carried. let kept = rw same at (c.show-outcome.ensures.carried text wanted taken taken_next empty carried) in (
+      c.run_piece-checked.ensures.carries text wanted formula target (rw carried at c.show-outcome.ensures.verdict),
       record { outputs = kept.outputs; named = more kept.outputs kept.named; receipt_named = kept.receipt_named },
     ))
-    (λ refuted. let kept = rw same at (c.show_piece-outcome.ensures.refuted text taken empty refuted) in (
-      c.run_piece-checked.ensures.refutes text formula (rw refuted at c.show_piece-outcome.ensures.verdict),
+    (λ refuted. let kept = rw same at (c.show-outcome.ensures.refuted text taken empty refuted) in (
+      c.run_piece-checked.ensures.refutes text formula (rw refuted at c.show-outcome.ensures.verdict),
       record { outputs = kept.outputs; named = more kept.outputs kept.named; receipt_named = kept.receipt_named },
     ))
+
+-- a run with another status names no receipt
+pub returns-clause-unkept : goal.returns-clause-unkept
+returns-clause-unkept g c fresh none other =
+    let status = c.exit_status.ensures in
+    let nonzero = nonzero_from c.exit_status.result (status_of shows_wanted c.show-outcome.result) status other in
+    let first = c.new-files.ensures.system in
+    let second = c.create_outputs.ensures.system ∙ first in
+    let same = c.create_wanted.ensures.system ∙ second in
+    let unwritten : g.S.OutputSystem.unwritten c.new-files.result.system.now ≡ Some [] = rw first fresh in
+    let left = rw same at (unkept _ _ _ _ _ _ _ c.run_piece-checked.result c.show-outcome.result _ _ nonzero c.show-outcome.ensures.verdict
+    c.show-outcome.ensures.unnamed c.show-outcome.ensures.unkept c.show-outcome.ensures.unshown) in
+    let apart = c.run_piece-checked.ensures.apart in
+    piece_some c.in_ok-made.made.core _ _ c.in_ok-made.made.form _ _ _ _ _ _ _ _ _ _ c.run_piece-checked.result none
+    (c.in_ok-made.ensures.lrat unwritten) (c.in_ok-made.ensures.core unwritten)
+    (λ there. ap (bytes_in (writer_contents g.S.Output.Write.contents)) (apart there))
+    c.run_piece-checked.ensures.lines c.run_piece-checked.ensures.core left
