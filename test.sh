@@ -13,10 +13,10 @@ tests/wrong_definitions.sh --records
 # `rt ci` puts libraries of an earlier run back in place of its own. Without them, all that follows is built over those of this run.
 # What checks have kept, in out/incremental, stays.
 rm -rf crates/*/out/rlib
-# The toolchain keeps the module of each program, of which tools/portable.sh makes others.
-rt=$(tools/portable.sh --toolchain "$told/toolchain")
+# The module of each program that is built is kept: tools/portable.sh makes others of it.
+tools/portable.sh --keeper "$told/keep.so"
 proved=0
-"$rt" ci 2>&1 | tee "$told/gate" || proved=$?
+LD_PRELOAD=$told/keep.so rt ci 2>&1 | tee "$told/gate" || proved=$?
 python3 -B tests/wrong_bodies/toolchain.py .
 ((proved == 0)) || exit "$proved"
 tests/weak_edits.sh "$told/gate"

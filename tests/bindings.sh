@@ -2,20 +2,10 @@
 # Builds the library for other languages, and calls it from C, C++, Rust and Python, where the tools are there: by the tests of each,
 # and from projects that stand outside the repository.
 set -euo pipefail
-
-top=$(cd "$(dirname "$0")/.." && pwd)
+. "$(dirname "$0")/lib.sh"
 own=$top/tests/bindings
-work=$(mktemp -d)
-trap 'rm -rf "$work"' EXIT
 cnf=$top/tests/data/board6.cnf
 proof=$top/tests/data/board6.lrat
-
-has() {
-  command -v "$1" > "$work/where" || {
-    echo "$1 is not installed: not tried"
-    return 1
-  }
-}
 
 # quiet COMMAND..: what it says is shown if it fails
 quiet() {

@@ -8,18 +8,7 @@
 #
 # The programs must be built: `rt ci` does it, or `rt run` in their folders.
 set -euo pipefail
-
-top=$(cd "$(dirname "$0")/.." && pwd)
-work=$(mktemp -d)
-trap 'rm -rf "$work"' EXIT
-wrong=0
-
-has() {
-  command -v "$1" > "$work/where" || {
-    echo "$1 is not installed: not tried"
-    return 1
-  }
-}
+. "$(dirname "$0")/lib.sh"
 
 if (($# == 0)); then
   pids=()
@@ -38,16 +27,9 @@ if (($# == 0)); then
   exit "$wrong"
 fi
 
-mkdir "$work/bin" "$work/room"
-for program in drat_check drat_cut join_check lrat_check model_check follows_check circuit_check; do
-  built=$top/crates/${program}_main/out/${program}_main
-  if [[ ! -x $built ]]; then
-    echo "not built: $built"
-    exit 1
-  fi
-  ln -s "$built" "$work/bin/$program"
-done
-export PATH=$work/bin:$PATH TMPDIR=$work/room
+on_path drat_check drat_cut join_check lrat_check model_check follows_check circuit_check
+mkdir "$work/room"
+export TMPDIR=$work/room
 cd "$work"
 read -ra shell <<< "$1"
 shell[0]=$(type -P "${shell[0]}")

@@ -4,32 +4,13 @@
 #
 # The programs must be built: `rt ci` does it, or `rt run` in their folders.
 set -euo pipefail
-
-top=$(cd "$(dirname "$0")/.." && pwd)
-work=$(mktemp -d)
-trap 'rm -rf "$work"' EXIT
-mkdir "$work/bin" "$work/room"
-for program in drat_check drat_cut join_check lrat_check model_check; do
-  built=$top/crates/${program}_main/out/${program}_main
-  if [[ ! -x $built ]]; then
-    echo "not built: $built"
-    exit 1
-  fi
-  ln -s "$built" "$work/bin/$program"
-done
-ln -s "$top"/tools/{checked,checked_all,pieces} "$work/bin"
+. "$(dirname "$0")/lib.sh"
+on_path drat_check drat_cut join_check lrat_check model_check checked checked_all pieces
+mkdir "$work/room"
 # (what stands for it on PATH may take longer than the script)
 ln -s "$(python3 -c 'import os, sys; print(os.path.realpath(sys.executable))')" "$work/bin/python3"
-export PATH=$work/bin:$PATH TMPDIR=$work/room
+export TMPDIR=$work/room
 cd "$work"
-wrong=0
-
-has() {
-  command -v "$1" > where || {
-    echo "$1 is not installed: not tried"
-    return 1
-  }
-}
 
 # ends STATUS OUTPUT COMMAND..: it must end so, and write this to standard output; nothing is left where `checked` works
 ends() {
@@ -46,14 +27,6 @@ ends() {
 because() {
   if ! grep -qF -- "$1" err; then
     printf 'no "%s" in: %s\n' "$1" "$(cat err)"
-    wrong=1
-  fi
-}
-
-# same WHAT WANTED FOUND
-same() {
-  if [[ $2 != "$3" ]]; then
-    printf '%s: not\n%s\nbut\n%s\n' "$1" "$2" "$3"
     wrong=1
   fi
 }

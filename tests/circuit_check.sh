@@ -8,17 +8,10 @@
 #
 # The program must be built: `rt ci` does it, or `rt run` in its folder.
 set -euo pipefail
-
-top=$(cd "$(dirname "$0")/.." && pwd)
-check=$top/crates/circuit_check_main/out/circuit_check_main
-if [[ ! -x $check ]]; then
-  echo "not built: $check"
-  exit 1
-fi
+. "$(dirname "$0")/lib.sh"
+check=$(built circuit_check)
 
 # No circuit is written over, by whatever name, and a formula that is not whole has no name.
-work=$(mktemp -d)
-trap 'rm -rf "$work"' EXIT
 (
   cd "$work"
   printf 'aig 3 2 0 1 1\n6\n\2\2' | tee one.aig two.aig > before

@@ -5,28 +5,14 @@
 #
 # The programs must be built: `rt ci` does it, or `rt run` in their folders. It needs yosys, berkeley-abc and cadical.
 set -euo pipefail
-
-top=$(cd "$(dirname "$0")/.." && pwd)
-work=$(mktemp -d)
-trap 'rm -rf "$work"' EXIT
-wrong=0
+. "$(dirname "$0")/lib.sh"
 for tool in yosys berkeley-abc cadical; do
   if ! command -v "$tool" > "$work/where"; then
     echo "$tool is not installed: not tried"
     exit
   fi
 done
-mkdir "$work/bin"
-for program in drat_check circuit_check; do
-  built=$top/crates/${program}_main/out/${program}_main
-  if [[ ! -x $built ]]; then
-    echo "not built: $built"
-    exit 1
-  fi
-  ln -s "$built" "$work/bin/$program"
-done
-ln -s "$top"/tools/{checked,circuit_sweep} "$work/bin/"
-export PATH=$work/bin:$PATH
+on_path drat_check circuit_check checked circuit_sweep
 cd "$work"
 
 # ends STATUS OUTPUT COMMAND..: it must end so and print this
@@ -78,8 +64,8 @@ design sums
 ends 20 's VERIFIED NEVER' checked --never cadical sums.aig
 
 # a solver that never ends on the whole formula, and one that also writes text
-printf '#!/bin/sh\ncase $* in *asked.cnf*) exec sleep 60;; esac\nexec cadical -q "$@"\n' > bin/lazy
-printf '#!/bin/sh\ncase $* in *asked.cnf*) exec sleep 60;; esac\nexec cadical -q --no-binary "$@"\n' > bin/lazy_text
+printf '#!/bin/sh\ncase $* in *asked.cnf*) exec sleep 600;; esac\nexec cadical -q "$@"\n' > bin/lazy
+printf '#!/bin/sh\ncase $* in *asked.cnf*) exec sleep 600;; esac\nexec cadical -q --no-binary "$@"\n' > bin/lazy_text
 chmod +x bin/lazy bin/lazy_text
 design crc
 design multiplier

@@ -4,24 +4,13 @@
 #
 # The programs must be built: `rt ci` does it, or `rt run` in their folders.
 set -euo pipefail
-
-top=$(cd "$(dirname "$0")/.." && pwd)
-work=$(mktemp -d)
-trap 'rm -rf "$work"' EXIT
-for program in drat_check lrat_check model_check; do
-  built=$top/crates/${program}_main/out/${program}_main
-  if [[ ! -x $built ]]; then
-    echo "not built: $built"
-    exit 1
-  fi
-  ln -s "$built" "$work/$program"
-done
-wrong=0
+. "$(dirname "$0")/lib.sh"
+on_path drat_check lrat_check model_check
 definitions=(python3 -B "$top/docs/definitions.py")
-LRAT_CHECK=$work/lrat_check "${definitions[@]}" --try 3000 1 || wrong=1
+LRAT_CHECK=$work/bin/lrat_check "${definitions[@]}" --try 3000 1 || wrong=1
 
 # A program that says something else is found out.
-printf '#!/bin/sh\n"%s" "$@" | sed "s/NOT VERIFIED/VERIFIED UNSAT/"\n' "$work/lrat_check" > "$work/liar"
+printf '#!/bin/sh\n"%s" "$@" | sed "s/NOT VERIFIED/VERIFIED UNSAT/"\n' "$work/bin/lrat_check" > "$work/liar"
 chmod +x "$work/liar"
 if LRAT_CHECK=$work/liar "${definitions[@]}" --try 50 1 > "$work/said"; then
   echo "a checker that lies is not found out"

@@ -4,20 +4,8 @@
 #
 # Without `dist/`, the folder that `tools/dist.sh` makes of the programs that are built here is tried in its place.
 set -euo pipefail
-
-top=$(cd "$(dirname "$0")/.." && pwd)
-work=$(mktemp -d)
-trap 'rm -rf "$work"' EXIT
+. "$(dirname "$0")/lib.sh"
 dist=$top/dist
-wrong=0
-
-# same WHAT WANTED FOUND
-same() {
-  if [[ $2 != "$3" ]]; then
-    printf '%s: not\n%s\nbut\n%s\n' "$1" "$2" "$3"
-    wrong=1
-  fi
-}
 
 last=$'rt: ok; handles allowed: none; every proof was done in this run\n12 passed, 0 failed'
 printf 'rt: lrat_check proved\n%s\n' "$last" > "$work/gate"

@@ -6,21 +6,12 @@
 #
 # The programs must be built: `rt ci` does it, or `rt run` in their folders. Without valgrind nothing is tried.
 set -euo pipefail
-
-top=$(cd "$(dirname "$0")/.." && pwd)
-work=$(mktemp -d)
-trap 'rm -rf "$work"' EXIT
-for program in drat_check drat_cut; do
-  if [[ ! -x $top/crates/${program}_main/out/${program}_main ]]; then
-    echo "not built: $program"
-    exit 1
-  fi
-done
+. "$(dirname "$0")/lib.sh"
+needs drat_check drat_cut
 if ! command -v valgrind > "$work/where"; then
   echo 'valgrind is not installed: not tried'
   exit 0
 fi
-wrong=0
 
 # files KIND COUNT: a formula and a proof
 files() {

@@ -6,25 +6,10 @@
 #
 # The programs must be built: `rt ci` does it, or `rt run` in their folders.
 set -euo pipefail
-
-top=$(cd "$(dirname "$0")/.." && pwd)
-check=$top/crates/drat_check_main/out/drat_check_main
-lrat_check=$top/crates/lrat_check_main/out/lrat_check_main
-for program in "$check" "$lrat_check"; do
-  if [[ ! -x $program ]]; then
-    echo "not built: $program"
-    exit 1
-  fi
-done
-work=$(mktemp -d)
-trap 'rm -rf "$work"' EXIT
+. "$(dirname "$0")/lib.sh"
+check=$(built drat_check)
+lrat_check=$(built lrat_check)
 cd "$work"
-wrong=0
-
-fault() {
-  echo "WRONG $*"
-  wrong=1
-}
 
 # wants STATUS OUTPUT ERRORS ARGUMENT..: a run over the formula f and the proof p must do this, and leave both as they are
 wants() {
@@ -139,10 +124,6 @@ binary_lines() {
   if (($(stat -c %s lrat) > 10000 && 2 * $(stat -c %s lrat.binary) > $(stat -c %s lrat))); then
     fault "$name: $(stat -c %s lrat.binary) bytes, and $(stat -c %s lrat) of text"
   fi
-}
-
-formula() {
-  python3 -B "$top/tests/drat/formulas.py" "$@"
 }
 
 wants 0 's VERIFIED UNSAT' '' f p --lrat l --core c

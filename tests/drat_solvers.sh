@@ -5,20 +5,8 @@
 #
 # The program must be built: `rt ci` does it, or `rt run` in its folder.
 set -euo pipefail
-
-top=$(cd "$(dirname "$0")/.." && pwd)
-work=$(mktemp -d)
-trap 'rm -rf "$work"' EXIT
-check=$top/crates/drat_check_main/out/drat_check_main
-if [[ ! -x $check ]]; then
-  echo "not built: $check"
-  exit 1
-fi
-wrong=0
-
-formula() {
-  python3 -B "$top/tests/drat/formulas.py" "$@"
-}
+. "$(dirname "$0")/lib.sh"
+check=$(built drat_check)
 
 # says_verified NAME CNF PROOF: the program has to say so, and to end with status 0
 says_verified() {
@@ -45,13 +33,6 @@ solved() {
     printf '%s: the solver ended with status %d\n' "$name" "$status"
     wrong=1
   fi
-}
-
-has() {
-  command -v "$1" > "$work/where" || {
-    echo "$1 is not installed: not tried"
-    return 1
-  }
 }
 
 formula pigeons 6 > "$work/pigeons.cnf"

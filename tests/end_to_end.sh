@@ -2,14 +2,10 @@
 # Runs the programs on files, and compares what they write and their exit statuses with what they must be.
 # The programs must be built: `rt ci` does it, or `rt run` in their folders.
 set -euo pipefail
-
-top=$(cd "$(dirname "$0")/.." && pwd)
-work=$(mktemp -d)
-trap 'rm -rf "$work"' EXIT
+. "$(dirname "$0")/lib.sh"
 mkdir "$work/files"
 cp "$top"/tests/data/*.cnf "$top"/tests/data/*.proof "$top"/tests/data/*.lrat "$work/files"
 names=()
-wrong=0
 
 # begin: no cases yet
 begin() {

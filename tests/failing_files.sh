@@ -4,29 +4,19 @@
 #
 # The programs must be built: `rt ci` does it, or `rt run` in their folders. It needs `cc`.
 set -euo pipefail
-
-top=$(cd "$(dirname "$0")/.." && pwd)
-check=$top/crates/varisat_check_main/out/varisat_check_main
-hint_check=$top/crates/hint_check_main/out/hint_check_main
-lrat_check=$top/crates/lrat_check_main/out/lrat_check_main
-drat_check=$top/crates/drat_check_main/out/drat_check_main
-model_check=$top/crates/model_check_main/out/model_check_main
-drat_cut=$top/crates/drat_cut_main/out/drat_cut_main
-convert=$top/crates/lrat_to_proof_main/out/lrat_to_proof_main
-follows=$top/crates/follows_check_main/out/follows_check_main
-minimal=$top/crates/minimal_check_main/out/minimal_check_main
-circuit=$top/crates/circuit_check_main/out/circuit_check_main
+. "$(dirname "$0")/lib.sh"
+check=$(built varisat_check)
+hint_check=$(built hint_check)
+lrat_check=$(built lrat_check)
+drat_check=$(built drat_check)
+model_check=$(built model_check)
+drat_cut=$(built drat_cut)
+convert=$(built lrat_to_proof)
+follows=$(built follows_check)
+minimal=$(built minimal_check)
+circuit=$(built circuit_check)
 data=$top/tests/data
-work=$(mktemp -d)
-trap 'rm -rf "$work"' EXIT
-for program in "$check" "$hint_check" "$lrat_check" "$drat_check" "$model_check" "$drat_cut" "$convert" "$follows" "$minimal" "$circuit"; do
-  if [[ ! -x $program ]]; then
-    echo "not built: $program"
-    exit 1
-  fi
-done
 "${CC:-cc}" -O2 -Wall -shared -fPIC -o "$work/fail.so" "$top/tests/failing_files/fail.c" -ldl
-wrong=0
 runs=0
 
 # failing LIMITS COMMAND..: a run with reads or writes that fail or are short, by the limits `NAME=NUMBER ..`. It sets `status`.

@@ -7,15 +7,8 @@
 #
 # The programs must be built: `rt ci` does it, or `rt run` in their folders.
 set -euo pipefail
-
-top=$(cd "$(dirname "$0")/.." && pwd)
-for program in follows_check minimal_check; do
-  built=$top/crates/${program}_main/out/${program}_main
-  if [[ ! -x $built ]]; then
-    echo "not built: $built"
-    exit 1
-  fi
-done
+. "$(dirname "$0")/lib.sh"
+needs follows_check minimal_check
 follows=$top/crates/follows_check_main/out/follows_check_main
 minimal=$top/crates/minimal_check_main/out/minimal_check_main
 exec python3 -B "$top/tests/follows/judge.py" "$follows" "$minimal" "${1:-150}" "${2:-1}"

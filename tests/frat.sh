@@ -7,20 +7,8 @@
 #
 # The program must be built: `rt ci` does it, or `rt run` in its folder.
 set -euo pipefail
-
-top=$(cd "$(dirname "$0")/.." && pwd)
-work=$(mktemp -d)
-trap 'rm -rf "$work"' EXIT
-check=$top/crates/drat_check_main/out/drat_check_main
-if [[ ! -x $check ]]; then
-  echo "not built: $check"
-  exit 1
-fi
-wrong=0
-
-formula() {
-  python3 -B "$top/tests/drat/formulas.py" "$@"
-}
+. "$(dirname "$0")/lib.sh"
+check=$(built drat_check)
 
 # says STATUS LINE NAME CNF PROOF [OPTION]: what the program answers
 says() {

@@ -3,27 +3,8 @@
 #
 # The programs must be built: `rt ci` does it, or `rt run` in their folders. The library is built if it is not there.
 set -euo pipefail
-
-top=$(cd "$(dirname "$0")/.." && pwd)
-work=$(mktemp -d)
-trap 'rm -rf "$work"' EXIT
+. "$(dirname "$0")/lib.sh"
 prefix="$work/a/a prefix"
-wrong=0
-
-has() {
-  command -v "$1" > "$work/where" || {
-    echo "$1 is not installed: not tried"
-    return 1
-  }
-}
-
-# same WHAT WANTED FOUND
-same() {
-  if [[ $2 != "$3" ]]; then
-    printf '%s: not\n%s\nbut\n%s\n' "$1" "$2" "$3"
-    wrong=1
-  fi
-}
 
 (umask 077 && "$top/install.sh" --built "$prefix")
 same 'what others may not read' '' "$(find "$prefix" ! -perm -o=r)"

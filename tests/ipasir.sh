@@ -7,21 +7,10 @@
 # The library is built if it is not there, and the programs must be: `rt ci` does it. Without CaDiCaL (Debian: libcadical-dev) the
 # stand-in alone is tried. IS_CADICAL2 is set where this script runs itself over CaDiCaL 2.
 set -euo pipefail
-
-top=$(cd "$(dirname "$0")/.." && pwd)
+. "$(dirname "$0")/lib.sh"
 own=$top/tests/ipasir
 layer=$top/bindings/ipasir/ipasir_checked.cpp
-work=$(mktemp -d)
-trap 'rm -rf "$work"' EXIT
 cd "$work"
-wrong=0
-
-has() {
-  command -v "$1" > where || {
-    echo "$1 is not installed: not tried"
-    return 1
-  }
-}
 
 # ends STATUS OUTPUT ERRORS COMMAND..: it must end so, and write this to standard output and to standard error
 ends() {

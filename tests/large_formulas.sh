@@ -4,18 +4,9 @@
 #
 # The programs must be built: `rt ci` does it, or `rt run` in their folders.
 set -euo pipefail
-
-top=$(cd "$(dirname "$0")/.." && pwd)
-work=$(mktemp -d)
-trap 'rm -rf "$work"' EXIT
+. "$(dirname "$0")/lib.sh"
 cd "$work"
-wrong=0
-for program in drat_check lrat_check hint_check lrat_to_proof varisat_check model_check; do
-  if [[ ! -x $top/crates/${program}_main/out/${program}_main ]]; then
-    echo "not built: $program"
-    exit 1
-  fi
-done
+needs drat_check lrat_check hint_check lrat_to_proof varisat_check model_check
 python3 -B "$top/tests/large/blocks.py" .
 read -r step line clause last < places
 for file in cnf sat.cnf; do

@@ -4,18 +4,9 @@
 #
 # The programs must be built: `rt ci` does it, or `rt run` in their folders.
 set -euo pipefail
-
-top=$(cd "$(dirname "$0")/.." && pwd)
+. "$(dirname "$0")/lib.sh"
 data=$top/tests/data
-work=$(mktemp -d)
-trap 'rm -rf "$work"' EXIT
-for program in varisat_check drat_check lrat_check hint_check follows_check minimal_check; do
-  if [[ ! -x $top/crates/${program}_main/out/${program}_main ]]; then
-    echo "not built: $program"
-    exit 1
-  fi
-done
-wrong=0
+needs varisat_check drat_check lrat_check hint_check follows_check minimal_check
 
 # logs NAME SETTING VERDICT PROGRAM FILE FILE LINE..: a run under a setting of the environment, `unset` for none, has this
 # verdict and logs these lines, which are patterns of grep, behind a level and a module

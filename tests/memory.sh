@@ -4,19 +4,10 @@
 #
 # The programs must be built: `rt ci` does it, or `rt run` in their folders.
 set -euo pipefail
-
-top=$(cd "$(dirname "$0")/.." && pwd)
+. "$(dirname "$0")/lib.sh"
 most=20000 # kilobytes
-work=$(mktemp -d)
-trap 'rm -rf "$work"' EXIT
 cd "$work"
-wrong=0
-for program in drat_check lrat_check hint_check; do
-  if [[ ! -x $top/crates/${program}_main/out/${program}_main ]]; then
-    echo "not built: $program"
-    exit 1
-  fi
-done
+needs drat_check lrat_check hint_check
 
 # takes_little STATUS OUTPUT ERRORS PROGRAM FORMULA PROOF: the run must do this, and take at most so much memory
 takes_little() {

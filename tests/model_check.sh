@@ -7,26 +7,11 @@
 #
 # The program must be built: `rt ci` does it, or `rt run` in its folder.
 set -euo pipefail
-
-top=$(cd "$(dirname "$0")/.." && pwd)
-work=$(mktemp -d)
-trap 'rm -rf "$work"' EXIT
-check=$top/crates/model_check_main/out/model_check_main
-if [[ ! -x $check ]]; then
-  echo "not built: $check"
-  exit 1
-fi
-wrong=0
+. "$(dirname "$0")/lib.sh"
+check=$(built model_check)
 
 answers() {
   python3 -B "$top/tests/model_check/answers.py" "$check" "$@" || wrong=1
-}
-
-has() {
-  command -v "$1" > "$work/where" || {
-    echo "$1 is not installed: not tried"
-    return 1
-  }
 }
 
 # ended STATUS NAME COMMAND..: the solver writes its answer and ends with this status

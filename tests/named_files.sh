@@ -4,11 +4,7 @@
 #
 # The programs must be built: `rt ci` does it, or `rt run` in their folders.
 set -euo pipefail
-
-top=$(cd "$(dirname "$0")/.." && pwd)
-built() {
-  echo "$top/crates/$1_main/out/$1_main"
-}
+. "$(dirname "$0")/lib.sh"
 check=$(built varisat_check)
 hint_check=$(built hint_check)
 lrat_check=$(built lrat_check)
@@ -18,16 +14,7 @@ model_check=$(built model_check)
 follows=$(built follows_check)
 minimal=$(built minimal_check)
 circuit=$(built circuit_check)
-for program in "$check" "$hint_check" "$lrat_check" "$convert" "$drat_check" "$model_check" "$follows" "$minimal" "$circuit"; do
-  if [[ ! -x $program ]]; then
-    echo "not built: $program"
-    exit 1
-  fi
-done
-work=$(mktemp -d)
-trap 'rm -rf "$work"' EXIT
 cd "$work"
-wrong=0
 
 # wants STATUS OUTPUT ERRORS COMMAND..: the run must do this, and leave the formula and both proofs as they are
 wants() {
@@ -160,6 +147,21 @@ if [[ -e never ]]; then
   echo 'WRONG a file is made where nothing can be read'
   wrong=1
 fi
+
+# inputs by links, one that leads to nothing, and an empty name; where only files are read, `-` is one; help comes before all else
+ln -sf f soft_f
+ln -sf absent nowhere
+printf 'aig 0 0 0 0 0\n' > ./-
+printf '0' > zero
+wants 0 's VERIFIED UNSAT' '' "$lrat_check" soft_f l
+for name in nowhere ''; do
+  wants 2 '' "cannot open $name"$'\nNo such file or directory (os error 2)' "$lrat_check" "$name" l
+  wants 2 '' "cannot open $name"$'\nNo such file or directory (os error 2)' "$lrat_check" f "$name"
+done
+wants 3 's NOT VERIFIED' '' "$circuit" never - --answer zero
+rm ./-
+wants 0 "$("$lrat_check" --help)" '' "$lrat_check" -h f
+wants 0 "$("$lrat_check" --help)" '' "$lrat_check" --help -V
 
 # an output is no file that standard output or standard error goes to, by its name, by another path or by a link; a pipe may be one.
 # Here the two are `out` and `err`.
@@ -434,6 +436,10 @@ done
 cp f.told f.right
 echo x >> f.told
 wants 1 '' $'formula: line 3: bad number\nin f.told\nbad number: x' "$model_check" f.told a
+
+ln -sf a soft_a
+wants 0 's VERIFIED SAT' '' "$model_check" f.right soft_a
+wants 2 '' $'cannot open absent\nNo such file or directory (os error 2)' "$model_check" absent a
 
 # claims: the formula for the solver is no file that is read, nor one of standard output or error; standard input is one of two files;
 # and headers that say something else are told of, each of its file

@@ -8,28 +8,9 @@
 # tests/packages/stand_in.c take the programs' place. The test names each tool that is not installed (dpkg-buildpackage with debhelper,
 # lintian, buildah, nix-instantiate, ruby, guile), and tries the rest.
 set -euo pipefail
-
-top=$(cd "$(dirname "$0")/.." && pwd)
+. "$(dirname "$0")/lib.sh"
 own=$top/tests/packages
 dist=$(realpath -m "${1:-$top/dist}")
-work=$(mktemp -d)
-trap 'rm -rf "$work"' EXIT
-wrong=0
-
-has() {
-  command -v "$1" > "$work/where" || {
-    echo "$1 is not installed: not tried"
-    return 1
-  }
-}
-
-# same WHAT WANTED FOUND
-same() {
-  if [[ $2 != "$3" ]]; then
-    printf '%s: not\n%s\nbut\n%s\n' "$1" "$2" "$3"
-    wrong=1
-  fi
-}
 
 # well WHAT WORD..: this call must end with status 0; if not, the end of its output is shown
 well() {

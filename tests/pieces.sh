@@ -7,40 +7,11 @@
 #
 # The programs must be built: `rt ci` does it, or `rt run` in their folders.
 set -euo pipefail
-
-top=$(cd "$(dirname "$0")/.." && pwd)
-work=$(mktemp -d)
-trap 'rm -rf "$work"' EXIT
-mkdir "$work/bin" "$work/room"
-for program in drat_cut drat_check lrat_check model_check join_check; do
-  built=$top/crates/${program}_main/out/${program}_main
-  if [[ ! -x $built ]]; then
-    echo "not built: $built"
-    exit 1
-  fi
-  ln -s "$built" "$work/bin/$program"
-done
-ln -s "$top/tools/pieces" "$top/tools/checked" "$work/bin"
-export PATH=$work/bin:$PATH TMPDIR=$work/room
+. "$(dirname "$0")/lib.sh"
+on_path drat_cut drat_check lrat_check model_check join_check pieces checked
+mkdir "$work/room"
+export TMPDIR=$work/room
 cd "$work"
-wrong=0
-
-has() {
-  command -v "$1" > where || {
-    echo "$1 is not installed: not tried"
-    return 1
-  }
-}
-
-# says STATUS OUTPUT COMMAND..: the call must end so, and write this to both streams together
-says() {
-  local status=0 said
-  said=$("${@:3}" 2>&1) || status=$?
-  if [[ $status != "$1" || $said != "$2" ]]; then
-    printf '%s: status %d, it wrote:\n%s\n' "${*:3}" "$status" "$said"
-    wrong=1
-  fi
-}
 
 # fails STATUS WORDS COMMAND..: the call must end so, and these words be in what it writes
 fails() {

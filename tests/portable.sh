@@ -4,14 +4,11 @@
 #
 #   tests/portable.sh [--pictures FOLDER] [NAME..]
 #
-# NAMEs are `lrat_check` and `circuit_check` if none is named. The programs must be built, and their modules be beside them, as the `rt`
-# of `tools/portable.sh --toolchain FOLDER` leaves them. It uses what is there of node, gcc, clang, tcc, qemu-aarch64 and chromium, and says
+# NAMEs are `lrat_check` and `circuit_check` if none is named. The programs must be built. Their modules are those that `./test.sh` leaves; where
+# it took programs of an earlier run that kept none, the first alone is tried, and proved again in a copy for its module. It uses what is there of node, gcc, clang, tcc, qemu-aarch64 and chromium, and says
 # what is not. FOLDER gets pictures of the page.
 set -euo pipefail
-
-top=$(cd "$(dirname "$0")/.." && pwd)
-work=$(mktemp -d)
-trap 'rm -rf "$work"' EXIT
+. "$(dirname "$0")/lib.sh"
 pictures=$work
 if [[ ${1:-} == --pictures ]]; then
   pictures=$(realpath -m "$2")
@@ -22,22 +19,6 @@ names=("$@")
 if ((${#names[@]} == 0)); then
   names=(lrat_check circuit_check)
 fi
-wrong=0
-
-has() {
-  command -v "$1" > "$work/where" || {
-    echo "$1 is not installed: not tried"
-    return 1
-  }
-}
-
-# same WHAT WANTED FOUND
-same() {
-  if [[ $2 != "$3" ]]; then
-    printf '%s: not\n%s\nbut\n%s\n' "$1" "$2" "$3"
-    wrong=1
-  fi
-}
 
 # Where wasm2c and the compiler for aarch64 are missing, that is said, and the other forms are made
 out=$work/forms
@@ -45,15 +26,21 @@ mkdir "$work/bin"
 ln -s /usr/bin/* "$work/bin/"
 ln -sf /usr/local/bin/* "$work/bin/"
 rm -f "$work"/bin/{wasm2c,aarch64-linux-gnu-gcc}
-PATH=$work/bin "$top/tools/portable.sh" --built "$work/few" "${names[@]}" > "$work/missing" 2>&1 &
-few=$!
-"$top/tools/portable.sh" --built "$out" "${names[@]}"
-wait "$few" || wrong=1
+# (in a copy, since other scripts run the programs meanwhile)
+if ! "$top/tools/portable.sh" --built "$out" "${names[@]}" 2> "$work/missing"; then
+  names=("${names[0]}")
+  mkdir "$work/copy"
+  (cd "$top" && tar -c --exclude=./.git --exclude=out --exclude=target . | tar -x -C "$work/copy" &&
+    find crates -mindepth 3 -maxdepth 3 \( -path '*/out/rlib' -o -path '*_main/out/*_main' \) -exec cp -a --parents {} "$work/copy" \;)
+  "$work/copy/tools/portable.sh" "$work/first" "${names[@]}"
+  "$top/tools/portable.sh" --built "$out" "${names[@]}"
+fi
+PATH=$work/bin "$top/tools/portable.sh" --built "$work/few" "${names[@]}" > "$work/missing" 2>&1
 same 'without two compilers' 'wasm2c is not installed (Debian: wabt): no C files
 aarch64-linux-gnu-gcc is not installed (Debian: gcc-aarch64-linux-gnu): no programs for aarch64' "$(cat "$work/missing")"
 same 'the other forms' "$(cd "$out" && sha256sum -- *.wasm cefindrato.* | sort)" "$(cd "$work/few" && sha256sum -- * | sort)"
 
-# A module that does not give the program is refused, as is a program without one
+# A module that does not give the program is refused, as is a program without one, also in the cache
 name=${names[0]}
 built=crates/${name}_main/out/${name}_main
 mkdir -p "$work/tree/${built%/*}"
@@ -62,7 +49,7 @@ cp "$top/$built"{,.bc,.bc.words} "$work/tree/${built%/*}/"
 echo >> "$work/tree/$built"
 for change in 'another program' 'no module'; do
   status=0
-  said=$("$work/tree/tools/portable.sh" --built "$work/none" "$name" 2>&1) || status=$?
+  said=$(XDG_CACHE_HOME=$work/cache "$work/tree/tools/portable.sh" --built "$work/none" "$name" 2>&1) || status=$?
   same "$change" "1 no module of $name as it is built: tools/portable.sh $work/none $name makes it" "$status $said"
   cp "$top/$built" "$work/tree/$built"
   rm -f "$work/tree/$built.bc"

@@ -1,13 +1,9 @@
 #!/usr/bin/env bash
 # `tools/proof_picture`: what it says of proofs, counted here in another way; that the picture is whole; and files that are none.
 set -euo pipefail
-
-top=$(cd "$(dirname "$0")/.." && pwd)
-work=$(mktemp -d)
-trap 'rm -rf "$work"' EXIT
+. "$(dirname "$0")/lib.sh"
 cd "$work"
 picture=$top/tools/proof_picture
-wrong=0
 
 # says STATUS OUTPUT WORDS..: the call must end so, and write this to both streams together
 says() {

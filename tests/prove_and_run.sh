@@ -4,10 +4,7 @@
 # answer is told as not proved; the proved program gets its words and standard input, and writes alone to standard output; and a library
 # that is not built is told.
 set -euo pipefail
-
-top=$(cd "$(dirname "$0")/.." && pwd)
-work=$(mktemp -d)
-trap 'rm -rf "$work"' EXIT
+. "$(dirname "$0")/lib.sh"
 mkdir "$work/room" "$work/tools" "$work/elsewhere"
 cp "$top/tools/prove_and_run" "$work/tools/"
 cd "$work"
@@ -97,7 +94,6 @@ touch out/rlib/library out/rlib/stamp out/incremental/kept
 END
 chmod +x rt
 export WORK=$work RT=$work/rt TMPDIR=$work/room
-wrong=0
 
 # is WHAT FOUND EXPECTED
 is() {

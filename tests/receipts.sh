@@ -6,28 +6,10 @@
 #
 # The programs must be built: `rt ci` does it, or `rt run` in their folders.
 set -euo pipefail
-
-top=$(cd "$(dirname "$0")/.." && pwd)
-work=$(mktemp -d)
-trap 'rm -rf "$work"' EXIT
-mkdir "$work/bin"
-for program in drat_check join_check lrat_check model_check; do
-  built=$top/crates/${program}_main/out/${program}_main
-  if [[ ! -x $built ]]; then
-    echo "not built: $built"
-    exit 1
-  fi
-  ln -s "$built" "$work/bin/$program"
-done
-PATH=$work/bin:$PATH
+. "$(dirname "$0")/lib.sh"
+on_path drat_check join_check lrat_check model_check
 cd "$work"
-wrong=0
 UNSAT='s VERIFIED UNSAT' SAT='s VERIFIED SAT' PIECE='s VERIFIED PIECE' OPEN='s NOT VERIFIED'
-
-fault() {
-  echo "WRONG $1"
-  wrong=1
-}
 
 # wants STATUS OUTPUT FAULT COMMAND..: the call must end so, and write this
 wants() {

@@ -8,29 +8,11 @@
 # that debootstrap made; without it one is made, where debootstrap and its mirror are there. What is not installed is said, and the rest
 # is tried.
 set -euo pipefail
-
-top=$(cd "$(dirname "$0")/.." && pwd)
-work=$(mktemp -d)
+. "$(dirname "$0")/lib.sh"
 # (what works in the folder goes on where this ends early, and debootstrap has /proc mounted there)
 trap 'wait; rm -rf "$work"' EXIT
 fresh=${1:-}
 bootstrap=''
-wrong=0
-
-has() {
-  command -v "$1" > "$work/where" || {
-    echo "$1 is not installed: not tried"
-    return 1
-  }
-}
-
-# same WHAT WANTED FOUND
-same() {
-  if [[ $2 != "$3" ]]; then
-    printf '%s: not\n%s\nbut\n%s\n' "$1" "$2" "$3"
-    wrong=1
-  fi
-}
 
 printf '1 2 0\n1 -2 0\n-1 2 0\n-1 -2 0\n' > "$work/four.cnf"
 printf '1 0\n0\n' > "$work/four.drat"
@@ -147,7 +129,7 @@ packed() {
 
 # Without a test run, that is said. Without an object, or with another program's, a program is not among the static ones; without
 # compilers there are the other forms.
-if has musl-gcc; then
+if has musl-gcc && has_object lrat_check; then
   rm -f "$other"/crates/{drat_check,model_check}_main/out/*.o
   cp "$other/crates/lrat_check_main/out/lrat_check_main.o" "$other/crates/model_check_main/out/model_check_main.o" || wrong=1
   said=$("$other/tools/release.sh" "$work/three")
@@ -174,10 +156,10 @@ dpkg-deb is not installed (Debian: dpkg): no Debian package' "$said"
 same 'the other forms' 'PROVED SHA256SUMS x86_64.tar.gz' "$(packed "$work/few")"
 
 # Static programs in a root that has nothing else
-for program in "$work/$name-static"/bin/*_check; do
-  same "what ${program##*/} loads" '' "$(readelf -d "$program" | grep NEEDED || true)"
+for program in "${static[@]}"; do
+  same "what $program loads" '' "$(readelf -d "$work/$name-static/bin/$program" | grep NEEDED || true)"
 done
-if [[ -d $work/$name-static ]] && unshare --user --map-root-user true 2> "$work/said"; then
+if [[ ${#static[@]} != 0 && -d $work/$name-static ]] && unshare --user --map-root-user true 2> "$work/said"; then
   cp "$work"/four.* "$work"/one.* "$work"/other.aig "$work"/same.drat "$work/$name-static"
   same 'in an empty root' "$(verdicts "${static[@]}")" \
     "$(PREFIX="unshare --user --map-root-user chroot $work/$name-static /bin/" bash -c "$(calls "${static[@]}")")"

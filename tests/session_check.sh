@@ -5,32 +5,9 @@
 #
 # The programs must be built: `rt ci` does it, or `rt run` in their folders.
 set -euo pipefail
-
-top=$(cd "$(dirname "$0")/.." && pwd)
-work=$(mktemp -d)
-trap 'rm -rf "$work"' EXIT
-mkdir "$work/bin"
-for program in session_check drat_check lrat_check model_check; do
-  built=$top/crates/${program}_main/out/${program}_main
-  if [[ ! -x $built ]]; then
-    echo "not built: $built"
-    exit 1
-  fi
-  ln -s "$built" "$work/bin/$program"
-done
-PATH=$work/bin:$PATH
+. "$(dirname "$0")/lib.sh"
+on_path session_check drat_check lrat_check model_check
 cd "$work"
-wrong=0
-
-# says STATUS OUTPUT COMMAND..: the call must end so, and write this to both streams together
-says() {
-  local status=0 said
-  said=$("${@:3}" 2>&1) || status=$?
-  if [[ $status != "$1" || $said != "$2" ]]; then
-    printf '%s: status %d, it wrote:\n%s\n' "${*:3}" "$status" "$said"
-    wrong=1
-  fi
-}
 
 printf 'p lidrup\ni 1 1 2 0\nq -1 0\ns SATISFIABLE\nm -1 2 0\n' > one.lidrup
 says 0 $'q 1 satisfiable: shown\nall answers are shown: 1 satisfiable, 0 unsatisfiable, 0 unknown' session_check --alone one.lidrup

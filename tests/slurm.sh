@@ -6,15 +6,12 @@
 # The programs must be built: `rt ci` does it, or `rt run` in their folders. Its daemons (munged, slurmctld, slurmd) run in the
 # foreground as children of this script, with ports, keys and folders of their own, and each is ended by its id.
 set -euo pipefail
-
+. "$(dirname "$0")/lib.sh"
 for program in munged slurmctld slurmd sbatch cadical; do
-  if ! command -v "$program" > /dev/null; then
-    echo "$program is not installed: not tried"
+  if ! has "$program"; then
     exit 0
   fi
 done
-top=$(cd "$(dirname "$0")/.." && pwd)
-work=$(mktemp -d)
 daemons=() submission=
 end() {
   local n
@@ -30,20 +27,11 @@ end() {
   rm -rf "$work"
 }
 trap end EXIT
-mkdir "$work/bin" "$work/slurm" "$work/slurm/"{state,spool}
-for program in drat_check drat_cut join_check lrat_check model_check; do
-  built=$top/crates/${program}_main/out/${program}_main
-  if [[ ! -x $built ]]; then
-    echo "not built: $built"
-    exit 1
-  fi
-  ln -s "$built" "$work/bin/$program"
-done
-ln -s "$top"/tools/{checked,checked_all,cubes,pieces} "$work/bin"
+mkdir "$work/slurm" "$work/slurm/"{state,spool}
+on_path drat_check drat_cut join_check lrat_check model_check checked checked_all cubes pieces
 solver=$(command -v cadical)
-export PATH=$work/bin:$PATH SLURM_CONF=$work/slurm/slurm.conf
+export SLURM_CONF=$work/slurm/slurm.conf
 cd "$work"
-wrong=0
 
 # The daemons. They talk by a socket and ports that no other Slurm has.
 host=$(hostname -s)

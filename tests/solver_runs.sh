@@ -5,20 +5,10 @@
 #
 # The programs must be built: `rt ci` does it, or `rt run` in their folders.
 set -euo pipefail
-
-top=$(cd "$(dirname "$0")/.." && pwd)
-lrat_check=$top/crates/lrat_check_main/out/lrat_check_main
-drat_check=$top/crates/drat_check_main/out/drat_check_main
-for program in "$lrat_check" "$drat_check"; do
-  if [[ ! -x $program ]]; then
-    echo "not built: $program"
-    exit 1
-  fi
-done
-work=$(mktemp -d)
-trap 'rm -rf "$work"' EXIT
+. "$(dirname "$0")/lib.sh"
+lrat_check=$(built lrat_check)
+drat_check=$(built drat_check)
 cd "$work"
-wrong=0
 
 # wants STATUS OUTPUT NAME: what the checker has ended with, in `status` and the file `said`
 wants() {
@@ -70,23 +60,12 @@ for last in '6 0 5 3 0' '6 0 5 3 4 0'; do
   fi
 done
 
-has() {
-  command -v "$1" > where || {
-    echo "$1 is not installed: not tried"
-    return 1
-  }
-}
-
 compiled=(c++ -std=c++17 -O2 -Wall -Wextra -Werror -pthread -I"$top/bindings/c" -I"$top/bindings/cpp")
 if has c++; then
   "${compiled[@]}" -o running "$top/tests/bindings/running.cpp"
   ./running "$lrat_check" four.cnf || wrong=1
 fi
 PYTHONPATH=$top/bindings/python python3 -B "$top/tests/bindings/running.py" "$lrat_check" four.cnf || wrong=1
-
-formula() {
-  python3 -B "$top/tests/drat/formulas.py" "$@"
-}
 
 formula pigeons 6 > pigeons.cnf
 formula multiplier 5 > multiplier.cnf

@@ -5,10 +5,7 @@
 #
 # The programs must be built: `rt ci` does it, or `rt run` in their folders.
 set -euo pipefail
-
-top=$(cd "$(dirname "$0")/.." && pwd)
-work=$(mktemp -d)
-trap 'rm -rf "$work"' EXIT
+. "$(dirname "$0")/lib.sh"
 mkdir "$work/bin" "$work/recipes"
 for program in drat_check lrat_check model_check; do
   built=$top/crates/${program}_main/out/${program}_main
@@ -21,14 +18,6 @@ done
 ln -s "$top"/tools/{checked,verified} "$work/bin"
 export PATH=$work/bin:$PATH
 cd "$work"
-wrong=0
-
-has() {
-  command -v "$1" > where || {
-    echo "$1 is not installed: not tried"
-    return 1
-  }
-}
 
 # ends STATUS OUTPUT COMMAND..: it must end so, and write this to standard output
 ends() {

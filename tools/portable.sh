@@ -2,7 +2,7 @@
 # Makes proved programs for machines that have neither the toolchain nor Linux on x86-64.
 #
 #   tools/portable.sh [--built] OUT NAME..
-#   tools/portable.sh --toolchain FOLDER
+#   tools/portable.sh --keeper FILE
 #
 # NAME is `drat_check`, `lrat_check`, `model_check` or `circuit_check`, or `follows_check` or `minimal_check`, which are not in the page.
 # OUT gets these forms; one that can't be made here says what is missing:
@@ -12,22 +12,23 @@
 #   NAME.c                      one C file: `cc -O2 -o NAME NAME.c -lm` (wasm2c, of Debian's wabt)
 #   NAME-aarch64                a program for Linux on aarch64 (gcc-aarch64-linux-gnu)
 #
-# All are made of the module that the proof's build hands to LLVM. A toolchain whose clang copies its input gives it, over what is
-# kept of the program's crate and those below it; with --built it is the one that a run before has left. Each time it is compiled and
-# linked as `rt` does, and that has to be the proved program, byte for byte. With --toolchain this toolchain is made in FOLDER and no
-# more, and the path of its `rt` is written: what that builds has its module beside it, as `--built` wants it. RT may name another `rt`.
+# All are made of the module that the proof's build hands to LLVM. A library that is preloaded into the toolchain copies it, over what is
+# kept of the program's crate and those below it; with --built nothing is proved, and the module is the one that a run before has left
+# beside the program, or in the user's cache under the program's sum. Each time it is compiled and linked as `rt` does, and that has to be
+# the proved program, byte for byte. With --keeper that library is made as FILE, and no more: what `LD_PRELOAD=FILE rt ci` builds has its
+# module beside it. RT may name another `rt`.
 set -euo pipefail
 
 usage() {
-  echo "usage: tools/portable.sh [--built] OUT NAME.., or --toolchain FOLDER (drat_check, lrat_check, model_check, circuit_check, follows_check, minimal_check)" >&2
+  echo "usage: tools/portable.sh [--built] OUT NAME.., or --keeper FILE (drat_check, lrat_check, model_check, circuit_check, follows_check, minimal_check)" >&2
   exit 2
 }
-is_built='' is_toolchain=''
+is_built='' is_keeper=''
 case ${1:-} in
   --built) is_built=1 ;;
-  --toolchain) is_toolchain=1 ;;
+  --keeper) is_keeper=1 ;;
 esac
-if [[ $is_built$is_toolchain ]]; then
+if [[ $is_built$is_keeper ]]; then
   shift
 fi
 if [[ -z ${1:-} || $1 == -* ]]; then
@@ -36,7 +37,7 @@ fi
 out=$(realpath -m "$1")
 shift
 names=("$@")
-if [[ ($is_toolchain && ${#names[@]} != 0) || (! $is_toolchain && ${#names[@]} == 0) ]]; then
+if [[ ($is_keeper && ${#names[@]} != 0) || (! $is_keeper && ${#names[@]} == 0) ]]; then
   usage
 fi
 shown=()
@@ -49,6 +50,7 @@ for name in "${names[@]}"; do
 done
 top=$(cd "$(dirname "$0")/.." && pwd)
 own=$top/tools/portable
+modules=${XDG_CACHE_HOME:-${HOME:-/nonexistent}/.cache}/cefindrato/modules
 export LC_ALL=C
 umask 022
 work=$(mktemp -d)
@@ -68,23 +70,13 @@ has() {
   }
 }
 
-# toolchain FOLDER: a toolchain that is the real one, but that its clang keeps each module beside what is made of it
-toolchain() {
-  local name
-  mkdir -p "$1/bin" "$1/toolchain/bin"
-  for name in "$kit"/* "$kit"/bin/* "$kit"/toolchain/* "$kit"/toolchain/bin/*; do
-    case ${name#"$kit"/} in
-      bin | toolchain | toolchain/bin | toolchain/bin/clang) ;;
-      # (what finds its folder by its own place is no link)
-      bin/rt | bin/rtlib.py) cp "$name" "$1/bin/" ;;
-      *) ln -s "$name" "$1/${name#"$kit"/}" ;;
-    esac
-  done
-  "${CC:-cc}" -O2 -Wall -Wextra -DCLANG="\"$clang\"" -o "$1/toolchain/bin/clang" "$own/keep.c"
+# keeper FILE: a library that keeps the module of each program that is built while it is preloaded
+keeper() {
+  "${CC:-cc}" -O2 -Wall -Wextra -fPIC -shared -o "$1" "$own/keep.c" -ldl
 }
 
-# is_kept NAME: whether the module that is kept gives the proved program
-is_kept() {
+# gives_program NAME: whether the module beside the program gives it
+gives_program() {
   local program=$top/crates/$1_main/out/$1_main kept=$top/crates/$1_main/out/$1_main.bc words
   [[ -f $program && -f $kept && -f $kept.words ]] || return 1
   rm -rf "$work/again"
@@ -96,11 +88,28 @@ is_kept() {
   cmp -s "$work/again/program" "$program"
 }
 
-# proved NAME RT: proves and builds the program anew, over what a check has kept of its crate
+# is_kept NAME: whether a module is kept that gives the proved program, beside it or in the cache
+is_kept() {
+  local program=$top/crates/$1_main/out/$1_main stored
+  [[ -f $program ]] || return 1
+  stored=$modules/$(sha256sum < "$program" | cut -c 1-64)
+  if gives_program "$1"; then
+    # (at most forty; a cache that can't be written costs time alone)
+    mkdir -p "$stored" && cp "$program".bc{,.words} "$stored/" && touch "$stored" || true
+    find "$modules" -mindepth 1 -maxdepth 1 -printf '%T@ %p\0' | sort -z -n -r | tail -z -n +41 | cut -z -d ' ' -f 2- | xargs -0 -r rm -rf
+  elif [[ -f $stored/$1_main.bc.words ]]; then
+    cp "$stored/$1_main.bc"{,.words} "${program%/*}/"
+    gives_program "$1"
+  else
+    return 1
+  fi
+}
+
+# proved NAME [VARIABLE=VALUE]: proves and builds the program anew, over what a check has kept of its crate
 proved() {
   local folder=$top/crates/$1_main
   rm -f "$folder/out/$1_main.stamp"
-  (cd "$folder" && "$2" run --jobs 1 -- --version) > "$work/said" 2>&1 < /dev/null || {
+  (cd "$folder" && env "${@:2}" "$rt" run --jobs 1 -- --version) > "$work/said" 2>&1 < /dev/null || {
     cat "$work/said" >&2
     return 1
   }
@@ -108,10 +117,10 @@ proved() {
 
 # watched NAME: builds the program so that its module is kept
 watched() {
-  if [[ ! -d $work/kit ]]; then
-    toolchain "$work/kit"
+  if [[ ! -f $work/keep.so ]]; then
+    keeper "$work/keep.so"
   fi
-  proved "$1" "$work/kit/bin/rt"
+  proved "$1" "LD_PRELOAD=$work/keep.so"
 }
 
 # module NAME: sees to it that the module of the proved program is there. The program that it is compared with was there before, or
@@ -131,7 +140,7 @@ module() {
   fi
   watched "$1"
   if ! cmp -s "$work/before" "$program"; then
-    proved "$1" "$rt"
+    proved "$1"
   fi
   if ! is_kept "$1"; then
     echo "the module of $1 does not give the proved program" >&2
@@ -177,9 +186,8 @@ aarch64() {
   aarch64-linux-gnu-gcc -static -s -Wl,--gc-sections -O2 -o "$out/$1-aarch64" "$work/aarch64.o" "$top/tools/release/rt.c"
 }
 
-if [[ $is_toolchain ]]; then
-  toolchain "$out"
-  echo "$out/bin/rt"
+if [[ $is_keeper ]]; then
+  keeper "$out"
   exit
 fi
 mkdir -p "$out"

@@ -132,7 +132,8 @@ def furnish(room, program, call):
         "models": b"-1 -2 0\n-1 2 0\n1 -2 0\n1 2 0\n",
         "cubes.txt": b"1 0\n-1 0\n",
         **{f"parts/{part}.drat": b"0\n" for part in ("1", "2", "closing")},
-        **{f"parts/{part}.receipt": receipt(text) for part, text in PARTS.items()},
+        # (a receipt of a part is of its text without the header)
+        **{f"parts/{part}.receipt": receipt(text.split(b"\n", 1)[1]) for part, text in PARTS.items()},
         "pieces/1.receipt": receipt(REFUTED),
         "pieces/1.drat": DRAT,
         "pieces/count": b"1\n",

@@ -1,20 +1,24 @@
-// Stands where the toolchain's clang is looked for, and calls it: CLANG is its path. When `rattle build -o NAME.o` has it compile a
-// module, the module is first copied to NAME.bc, and the words of the call to NAME.bc.words, beside the object. Where that can't be
-// done nothing is kept, and the module is compiled all the same.
+// Preloaded into `rattle build -o NAME.o` (LD_PRELOAD): when that starts clang on the module that it has written, the module is first
+// copied to NAME.bc, and the words of the call to NAME.bc.words, beside the object. Where that can't be done nothing is kept. What is
+// started, and with which words, stays the same.
+#define _GNU_SOURCE
+#include <dlfcn.h>
 #include <limits.h>
+#include <spawn.h>
 #include <stdio.h>
 #include <string.h>
 #include <unistd.h>
 
 static const char module[] = "module.bc";
 
-// Sets `object` to the path of the object that the calling process makes, without `.o`.
-static int object_of(long caller, char *object)
+// The folder in which the next program is to start.
+static __thread char folder[PATH_MAX];
+
+// Sets `object` to the path of the object that this process makes, without `.o`.
+static int object_of(char *object)
 {
     static char words[1 << 20];
-    char path[64];
-    snprintf(path, sizeof path, "/proc/%ld/cmdline", caller);
-    FILE *file = fopen(path, "r");
+    FILE *file = fopen("/proc/self/cmdline", "r");
     if (!file)
         return 0;
     const char *end = words + fread(words, 1, sizeof words - 1, file);
@@ -22,8 +26,8 @@ static int object_of(long caller, char *object)
     for (const char *word = words; word < end; word += strlen(word) + 1) {
         const char *next = word + strlen(word) + 1;
         size_t length = next < end ? strlen(next) : 0;
-        if (!strcmp(word, "-o") && length > 2 && !strcmp(next + length - 2, ".o")) {
-            snprintf(object, PATH_MAX, "/proc/%ld/cwd/%.*s", caller, (int)(length - 2), next);
+        if (!strcmp(word, "-o") && length > 2 && length < PATH_MAX && !strcmp(next + length - 2, ".o")) {
+            snprintf(object, PATH_MAX, "%.*s", (int)(length - 2), next);
             return 1;
         }
     }
@@ -40,16 +44,17 @@ static int copy(FILE *from, FILE *to)
     return !ferror(from);
 }
 
-static void keep(int count, char **words)
+static void keep(char *const words[])
 {
-    char object[PATH_MAX], kept[PATH_MAX + 16], kept_words[PATH_MAX + 16];
-    if (!object_of((long)getppid(), object))
+    char object[PATH_MAX], kept[PATH_MAX + 16], kept_words[PATH_MAX + 16], written[PATH_MAX + 16];
+    if (!object_of(object))
         return;
     snprintf(kept, sizeof kept, "%s.bc", object);
     snprintf(kept_words, sizeof kept_words, "%s.bc.words", object);
-    FILE *from = fopen(module, "rb"), *to = fopen(kept, "wb"), *list = fopen(kept_words, "w");
+    snprintf(written, sizeof written, "%s/%s", *folder ? folder : ".", module);
+    FILE *from = fopen(written, "rb"), *to = fopen(kept, "wb"), *list = fopen(kept_words, "w");
     int is_kept = from && to && list && copy(from, to);
-    for (int i = 1; is_kept && i < count; i++)
+    for (int i = 1; is_kept && words[i]; i++)
         is_kept = fprintf(list, "%s\n", words[i]) > 0;
     if (from)
         fclose(from);
@@ -61,12 +66,21 @@ static void keep(int count, char **words)
     }
 }
 
-int main(int count, char **words)
+int posix_spawn_file_actions_addchdir_np(posix_spawn_file_actions_t *actions, const char *path)
 {
-    for (int i = 1; i < count; i++)
+    int (*next)(posix_spawn_file_actions_t *, const char *) = dlsym(RTLD_NEXT, "posix_spawn_file_actions_addchdir_np");
+    snprintf(folder, sizeof folder, "%s", path);
+    return next(actions, path);
+}
+
+int posix_spawnp(pid_t *pid, const char *file, const posix_spawn_file_actions_t *actions, const posix_spawnattr_t *attributes,
+    char *const words[], char *const environment[])
+{
+    int (*next)(pid_t *, const char *, const posix_spawn_file_actions_t *, const posix_spawnattr_t *, char *const[], char *const[]) =
+        dlsym(RTLD_NEXT, "posix_spawnp");
+    for (int i = 1; words[0] && words[i]; i++)
         if (!strcmp(words[i], module))
-            keep(count, words);
-    execv(CLANG, words);
-    perror(CLANG);
-    return 127;
+            keep(words);
+    *folder = 0;
+    return next(pid, file, actions, attributes, words, environment);
 }
