@@ -3,16 +3,18 @@
 #
 #   benches/drat_list.sh [OTHER.cc] [NAME..]
 #
-# A line for each proof of LIST below, or for those that are named: its bytes as text, the seconds of a processor that the
-# solver took to find it, where one did; then seconds and megabytes at most of `drat_check`, instructions in millions where the
-# proof has at most COUNTED bytes (5,000,000 where that is not set), and the same of OTHER.cc, compiled by `g++ -O2` and called
-# with a formula, a proof, and `--chains`; without it, of `drat_check` alone.
+# What it prints with OTHER.cc is benches/drat_list.txt: a line for each proof of LIST below, or for those that are named. It has its
+# bytes as text, the seconds of a processor that the solver took to find it, where one did; then seconds and megabytes at most of
+# `drat_check`, instructions in millions where the proof has at most COUNTED bytes (5,000,000 where that is not set), and the same of
+# OTHER.cc, compiled by `g++ -O2` and called with a formula, a proof, and `--chains`; without it, of `drat_check` alone; and the bytes of
+# the LRAT lines. Where `drat_check` takes a second or more, its seconds by the clock follow, and those of `pieces run` with two and with
+# four pieces at a time.
 # Text and binary must be verified, give the same LRAT lines, and `lrat_check` must accept these: else the line says what
-# was wrong, and the script ends with status 1. A proof of more than 40 MB, or that a solver needs more than LIMIT seconds for
-# (300), is left out.
+# was wrong, and the script ends with status 1. A proof of more than MOST bytes (40,000,000), or that a solver needs more than LIMIT seconds
+# for (300), is left out.
 #
 # Formulas, proofs and the solver's seconds are kept in FOLDER, where that is set. The programs are those that `rt run` left in
-# out/; PROGRAM and LRAT_CHECK may name others. It needs python3, valgrind, Debian's `time`, and cadical, picosat and
+# out/; PROGRAM and LRAT_CHECK may name others, except for pieces. It needs python3, valgrind, Debian's `time`, and cadical, picosat and
 # cryptominisat for their proofs.
 set -euo pipefail
 top=$(cd "$(dirname "$0")/.." && pwd)
@@ -21,6 +23,10 @@ lrat_check=${LRAT_CHECK:-$top/crates/lrat_check_main/out/lrat_check_main}
 work=$(mktemp -d)
 trap 'rm -rf "$work"' EXIT
 folder=${FOLDER:-$work}
+mkdir "$work/bin"
+for program in drat_check drat_cut join_check; do
+  ln -s "$top/crates/${program}_main/out/${program}_main" "$work/bin/$program"
+done
 
 # name | formula | how the proof is made: by a solver with options, by a family of proofs, or by definitions and cadical
 LIST='
@@ -58,6 +64,9 @@ sym20    | pigeons 20           | swaps 20
 defs200  | random 200 4.8 1     | define 400 1
 defs250  | random 250 4.6 1     | define 600 1
 defm7    | multiplier 7         | define 300 2
+mult9    | multiplier 9         | cadical
+par40    | chains 40 3          | cadical
+cnt10    | counter 10 900       | cadical
 '
 
 made() {
@@ -122,9 +131,28 @@ measured() {
   printf '%s %7s' "$(taken "${@:2}")" "$count"
 }
 
+# in_pieces JOBS CNF DRAT: seconds by the clock of a proof in pieces, so many at a time; if they are verified
+in_pieces() {
+  local start=$EPOCHREALTIME
+  rm -rf "$work/pieces"
+  PATH=$work/bin:$PATH "$top/tools/pieces" run "$2" "$3" "$work/pieces" --jobs "$1" > "$work/said" 2> "$work/errors" || return 1
+  awk -v from="$start" -v to="$EPOCHREALTIME" 'BEGIN { printf " %7.2f", to - from }'
+  grep -q '^s VERIFIED UNSAT BY ' "$work/said"
+}
+
+# on_cores CNF DRAT: seconds by the clock, of the whole and in pieces
+on_cores() {
+  local jobs
+  /usr/bin/time -o "$work/time" -f '%e' "$check" "$1" "$2" > "$work/said" 2> "$work/errors"
+  printf ' %7.2f' "$(< "$work/time")"
+  for jobs in 2 4; do
+    in_pieces "$jobs" "$1" "$2" || return 1
+  done
+}
+
 # row NAME CNF DRAT: a line; the status says whether all was as it should be
 row() {
-  local cnf=$2 drat=$3 size solver=- counts=0
+  local cnf=$2 drat=$3 size solver=- counts=0 ours
   size=$(stat -c %s "$drat")
   if ((size <= ${COUNTED:-5000000})); then
     counts=1
@@ -132,7 +160,8 @@ row() {
   if [[ -s ${drat%.drat}.solved ]]; then
     solver=$(< "${drat%.drat}.solved")
   fi
-  printf '%-8s %9d %7s %s' "$1" "$size" "$solver" "$(measured $counts "$check" "$cnf" "$drat")"
+  ours=$(measured $counts "$check" "$cnf" "$drat")
+  printf '%-8s %9d %7s %s' "$1" "$size" "$solver" "$ours"
   if [[ -n $other ]]; then
     printf ' %s' "$(measured $counts "$work/other" "$cnf" "$drat" --chains)"
   fi
@@ -150,7 +179,12 @@ row() {
     printf ' WRONG: lrat_check: %s\n' "$(head -1 "$work/errors")"
     return 1
   fi
-  printf ' %9d\n' "$(stat -c %s "$work/lrat")"
+  printf ' %9d' "$(stat -c %s "$work/lrat")"
+  if awk '{ exit !($1 >= 1) }' <<< "$ours" && ! on_cores "$cnf" "$drat"; then
+    printf ' WRONG: in pieces: %s\n' "$(head -1 "$work/errors")"
+    return 1
+  fi
+  echo
 }
 
 other=
@@ -160,7 +194,7 @@ if [[ ${1:-} == *.cc || ${1:-} == *.cpp ]]; then
   shift
 fi
 wrong=0
-printf '%-8s %9s %7s %7s %7s %7s %s%9s\n' proof bytes solver seconds MB 'Minstr' "${other:+   other:  seconds, MB, Minstr }" 'LRAT bytes'
+printf '# %-6s %9s %7s %7s %7s %7s %s%9s %s\n' proof bytes solver seconds MB 'Minstr' "${other:+other s      MB  Minstr }" LRAT '  clock     two    four'
 while IFS='|' read -r name formula how; do
   read -r name <<< "$name"
   if [[ -z $name || ($# -gt 0 && " $* " != *" $name "*) ]]; then
@@ -179,7 +213,7 @@ while IFS='|' read -r name formula how; do
     fi
     cp "$work/solved" "$folder/$name.solved"
   fi
-  if (($(stat -c %s "$drat") > 40000000)); then
+  if (($(stat -c %s "$drat") > ${MOST:-40000000})); then
     printf '%-8s %9d left out\n' "$name" "$(stat -c %s "$drat")"
     continue
   fi

@@ -1,4 +1,5 @@
-"""Draws benches/times.svg: the seconds of `drat_check` and of the program beside it, from the 34 proofs of benches/drat_list.txt.
+"""Draws benches/times.svg: the seconds of `drat_check`, of the program beside it, and by the clock of pieces on four processors, from the
+proofs of benches/drat_list.txt.
 
     python3 benches/picture.py             writes the picture
     python3 benches/picture.py --check     says whether the picture is the one that would be written, and writes nothing
@@ -12,8 +13,12 @@ HERE = os.path.dirname(os.path.abspath(__file__))
 PICTURE = os.path.join(HERE, "times.svg")
 
 WIDTH, HEIGHT, LEFT, TOP, RIGHT, BOTTOM = 820, 430, 70, 46, 36, 50
-BYTES, SECONDS = (1e5, 1e8), (0.01, 30)
-SERIES = (("drat_check, which checks each line too", "#2b6cb0"), ("the program in C++, which makes the lines alone", "#c05621"))
+BYTES, SECONDS = (1e5, 1e9), (0.01, 100)
+SERIES = (
+    ("drat_check", "#2b6cb0"),
+    ("the program in C++, which checks no line", "#c05621"),
+    ("drat_check on pieces, four at a time", "#2f855a"),
+)
 
 
 def text_of(path):
@@ -22,11 +27,11 @@ def text_of(path):
 
 
 def rows():
-    """Each proof with its bytes and the two times."""
+    """Each proof with its bytes and the times of each series that it has."""
     for line in text_of(os.path.join(HERE, "drat_list.txt")).splitlines():
         if not line.startswith("#"):
-            name, size, _, ours, other, *_ = line.split()
-            yield name, int(size), (float(ours), float(other))
+            name, size, _, ours, _, _, other, _, _, _, *clock = line.split()
+            yield name, int(size), [float(it) for it in (ours, other, *clock[-1:])]
 
 
 def along(value, ends, first, last):
@@ -45,11 +50,11 @@ def text(x, y, words, style="note", anchor="middle"):
 
 def scales():
     right, bottom = WIDTH - RIGHT, HEIGHT - BOTTOM
-    for size, words in ((1e5, "100 kB"), (1e6, "1 MB"), (1e7, "10 MB"), (1e8, "100 MB")):
+    for size, words in ((1e5, "100 kB"), (1e6, "1 MB"), (1e7, "10 MB"), (1e8, "100 MB"), (1e9, "1 GB")):
         x = at(size, 1)[0]
         yield f'<path d="M{x:.1f} {TOP}V{bottom}" class="line"/>'
         yield text(x, bottom + 18, words)
-    for seconds in (0.01, 0.1, 1, 10):
+    for seconds in (0.01, 0.1, 1, 10, 100):
         y = at(1e5, seconds)[1]
         yield f'<path d="M{LEFT} {y:.1f}H{right}" class="line"/>'
         yield text(LEFT - 8, y + 4, f"{seconds:g} s", anchor="end")
@@ -58,9 +63,10 @@ def scales():
 
 def points():
     for name, size, times in rows():
-        (x, ours), (_, other) = at(size, times[0]), at(size, times[1])
-        yield f'<path d="M{x:.1f} {ours:.1f}V{other:.1f}" stroke="#999999"/>'
-        for seconds, y, (_, fill) in zip(times, (ours, other), SERIES):
+        x, low, high = at(size, min(times))[0], at(size, min(times))[1], at(size, max(times))[1]
+        yield f'<path d="M{x:.1f} {low:.1f}V{high:.1f}" stroke="#999999"/>'
+        for seconds, (_, fill) in zip(times, SERIES):
+            y = at(size, seconds)[1]
             yield f'<circle cx="{x:.1f}" cy="{y:.1f}" r="4" fill="{fill}"><title>{name}: {seconds:g} s</title></circle>'
 
 
@@ -74,7 +80,7 @@ def picture():
         *scales(),
         *points(),
     ]
-    for (words, fill), x in zip(SERIES, (LEFT, 370)):
+    for (words, fill), x in zip(SERIES, (LEFT, 190, 520)):
         out.append(f'<circle cx="{x + 5}" cy="22" r="5" fill="{fill}"/>')
         out.append(text(x + 16, 26, words, "title", "start"))
     return "\n".join([*out, "</svg>", ""])
