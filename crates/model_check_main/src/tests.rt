@@ -8,10 +8,8 @@ ghost use Rattle.test_files.specs.Listed.{bytes_in, named_in, place_in};
 
 use crate::about::ABOUT;
 use crate::run;
-use command::{Call, read_words};
-use std::alloc::Global;
-use std::process::Abort;
-use test_files::{ListedFiles, ListedNames, Target};
+use command::Call;
+use test_files::{ListedFiles, ListedNames, Run, Target, first_unlike};
 
 /// 1 or 2, not 1 or 3, not 2 or not 3.
 const FORMULA: &[u8] = b"p cnf 3 3\n1 2 0\n-1 3 0\n-2 -3 0\n";
@@ -30,21 +28,11 @@ const FILES: [(&str, Target<'static>); 4] = [
 const RECEIPT: &[u8] =
     b"satisfied sha256 a8b2a31c8dd8ba69dd9f6b5e97792081572d2984d3ae40dcc4a6e40631427c98\n";
 
-/// The words of a call, what standard input gives, the answer of the run, its output, and the files
-/// that it names.
-type Row = (
-    &'static [&'static str],
-    Option<&'static [u8]>,
-    Result<u8, u8>,
-    &'static [u8],
-    &'static [(&'static str, &'static [u8])],
-);
-
 const SHOWN: &[u8] = b"s VERIFIED SAT\n";
 
 const UNSHOWN: &[u8] = b"s NOT VERIFIED\n";
 
-const ROWS: [Row; 16] = [
+const RUNS: [Run; 16] = [
     (&["cnf", "answer"], None, Ok(0), SHOWN, &[]),
     (&["cnf", "link"], None, Ok(0), SHOWN, &[]),
     (&["cnf", "other"], None, Ok(3), UNSHOWN, &[]),
@@ -102,44 +90,14 @@ fn run_listed(
     run(system, call, names, out)
 }
 
-fn call_of(rt: &impl Abort, alloc: Global, words: &[&str]) -> Call<'static> {
-    let mut given = Vec::new(alloc);
-    for word in words {
-        let word = String::from_str(alloc, word).expect(rt, "a word");
-        given.push(word).expect(rt, "room");
-    }
-    read_words(alloc, ABOUT.options, 2, given.into_iter())
-        .ok()
-        .expect(rt, "a call")
-}
-
-fn plays(rt: &impl Abort, alloc: Global, (words, input, answer, line, files): Row) {
-    let system = ListedFiles::new(alloc, &FILES, input);
-    let mut names = ListedNames::new(alloc);
-    let mut out = Vec::new(alloc);
-    let call = call_of(rt, alloc, words);
-    assert_eq!(rt;
-        run_listed(&system, &call, &mut names, &mut out),
-        answer,
-        "{words:?}"
-    );
-    assert_eq!(rt; out.as_slice(), line, "{words:?}");
-    assert_eq!(rt; names.files().len(), files.len(), "{words:?}");
-    for (named, (place, bytes)) in names.files().iter().zip(files) {
-        assert_eq!(rt; named.place.as_str(), *place);
-        assert_eq!(rt; named.bytes.as_slice(), *bytes);
-    }
-    assert_eq!(rt; system.count_unnamed(), 0, "{words:?}");
-}
-
-/// The rows come as a slice: a loop over the table itself would build it in its function's proof.
-fn are_played(rt: &impl Abort, alloc: Global, rows: &[Row]) {
-    for row in rows {
-        plays(rt, alloc, *row);
-    }
-}
-
 #[test]
 fn answers_are_checked(rt: HostRuntime) {
-    are_played(&rt, rt.alloc(), &ROWS);
+    let unlike = first_unlike(
+        rt.alloc(),
+        &ABOUT,
+        &FILES,
+        &RUNS,
+        |system, call, names, out| { run_listed(system, call, names, out) },
+    );
+    assert_eq!(rt; unlike, None);
 }

@@ -5,7 +5,9 @@
 mod inputs;
 mod listed;
 mod outputs;
+mod runs;
 
 pub use inputs::ListedFile;
 pub use listed::{ListedFiles, Target};
 pub use outputs::{ListedNames, ListedOutput, NamedFile};
+pub use runs::{Run, first_unlike};
