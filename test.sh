@@ -1,10 +1,19 @@
 #!/usr/bin/env bash
 # Proves, tests and runs everything, from nothing: the gate, and then the programs on files, on files that fail, and
 # where memory is refused. The scripts after the gate run side by side, and each one's lines are shown once it has ended.
+#
+#   ./test.sh [--anew]
+#
+# A script that has passed on this machine over the same files is not run again, except that of wrong bodies, unless with `--anew`.
 set -euo pipefail
 cd "$(dirname "$0")"
 told=$(mktemp -d)
 trap 'rm -rf "$told"' EXIT
+passed=${XDG_CACHE_HOME:-$HOME/.cache}/cefindrato/passed
+if [[ ${1:-} == --anew ]]; then
+  passed=$told/passed
+fi
+mkdir -p "$passed"
 tests/documents.sh
 tests/layout.sh
 tests/wrong_bodies.sh --records
@@ -21,6 +30,28 @@ python3 -B tests/wrong_bodies/toolchain.py .
 ((proved == 0)) || exit "$proved"
 tests/weak_edits.sh "$told/gate"
 
+# What scripts can depend on: the programs, the packages of this machine, and the files of the repository
+{
+  rt version
+  dpkg-query -W 2> "$told/no_packages" || true
+  find crates -mindepth 3 -maxdepth 3 -path '*/out/*' -type f -perm -u+x -print0 | sort -z | xargs -0 sha256sum
+  git ls-files -z --cached --others --exclude-standard | sort -z | xargs -0 sha256sum
+} > "$told/files"
+
+# all_of SCRIPT: a sum of these, without other scripts, and without documents if it names none; and of the archive of the library
+all_of() {
+  local script=tests/$1.sh documents='\.md$'
+  if grep -rqs 'docs/\|\.md' "$script" "tests/$1"; then
+    documents='^$'
+  fi
+  {
+    grep -v ' tests/[^/]*\.sh$' "$told/files" | grep -Ev "$documents"
+    cat "$script" tests/lib.sh
+    grep -q 'git ' "$script" && git rev-parse HEAD
+    cat crates/*/out/*.a
+  } 2> "$told/$1.none" | sha256sum | cut -c 1-64
+}
+
 # run SCRIPT [WORD ..]: its lines, its name and its seconds, together; a name that is left in `failed` if it failed. What uses the archive of the
 # library waits until it is made, but not for ever.
 run() {
@@ -31,18 +62,27 @@ run() {
       sleep 1
     done
   fi
+  if [[ -e $passed/$(all_of "$1") && $1 != wrong_bodies ]]; then
+    echo "tests/$1.sh has passed on this machine over the same files"
+    touch "$told/$1.ended"
+    return
+  fi
   SECONDS=0
   "tests/$1.sh" "${@:2}" > "$told/$1" 2>&1 || status=$?
   cat "$told/$1"
   echo "tests/$1.sh ended with status $status after $SECONDS s"
-  [[ $status == 0 ]] || echo "$1" >> "$told/failed"
+  if [[ $status == 0 ]]; then
+    touch "$passed/$(all_of "$1")"
+  else
+    echo "$1" >> "$told/failed"
+  fi
   touch "$told/$1.ended"
 }
-export -f run
-export told
+export -f run all_of
+export told passed
 # (two more than there are processors, since at first two wait for the library)
 printf '%s\n' library 'wrong_bodies --asked' release portable slurm refused_growths sessions session_check cubes pieces ipasir failing_files drat_fuzz drat_growth lrat_fuzz drat_outputs install bindings \
-  log_lines end_to_end rows drat_solvers frat large_formulas named_files examples records checked checked_all verified definitions proof_picture solver_runs prove_and_run memory model_check follows join receipts circuit_check circuits dist packages |
+  log_lines listed_files end_to_end rows drat_solvers frat large_formulas named_files examples records checked checked_all verified definitions proof_picture solver_runs prove_and_run memory model_check follows join receipts circuit_check circuits dist packages |
   xargs -P "$(($(nproc) + 2))" -I SCRIPT bash -c 'run SCRIPT'
 
 # What failed is told once more at the end, where it is looked for.
