@@ -5,8 +5,8 @@
 #   tests/portable.sh [--pictures FOLDER] [NAME..]
 #
 # NAMEs are `lrat_check` and `circuit_check` if none is named. The programs must be built. Their modules are those that `./test.sh` leaves; where
-# it took programs of an earlier run that kept none, the first alone is tried, and proved again in a copy for its module. It uses what is there of node, gcc, clang, tcc, qemu-aarch64 and chromium, and says
-# what is not. FOLDER gets pictures of the page.
+# it took programs of an earlier run that kept none, the first alone is tried, and proved again in a copy for its module. It uses what is there of
+# node, gcc, clang, tcc, qemu-aarch64 and chromium, and says what is not. FOLDER gets pictures of the page.
 set -euo pipefail
 . "$(dirname "$0")/lib.sh"
 pictures=$work

@@ -41,8 +41,10 @@ class Proof {
                 kind_ = byte;
                 continue;
             }
-            number |= static_cast<uint64_t>(byte & 127) << shift;
-            shift += 7;
+            if (shift < 64) {
+                number |= static_cast<uint64_t>(byte & 127) << shift;
+                shift += 7;
+            }
             if (!(byte & 128)) {
                 add(static_cast<Code>(number));
                 number = shift = 0;

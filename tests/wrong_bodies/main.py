@@ -28,7 +28,8 @@ from functions import NoCopy, WrongBody
 from judging import judge, judge_alone
 from records import ROOT, Record, bodies, crates_with_wrong_bodies
 
-BATCH = 30
+# How many copies one check has. One of 30 copies in a program ends without a line for any of them.
+BATCH, PROGRAM_BATCH = 30, 8
 
 
 def check_records():
@@ -85,7 +86,8 @@ class Trial:
 
     def batches(self):
         copies = self.controls + self.rights + self.wrongs
-        return [copies[at : at + BATCH] for at in range(0, len(copies), BATCH)] + [[it] for it in self.alone]
+        size = PROGRAM_BATCH if os.path.exists(f"{self.crate}/src/main.rt") else BATCH
+        return [copies[at : at + size] for at in range(0, len(copies), size)] + [[it] for it in self.alone]
 
     def try_batch(self, batch):
         with tempfile.TemporaryDirectory(prefix="wrong-bodies-") as room:
