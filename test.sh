@@ -9,7 +9,7 @@ set -euo pipefail
 cd "$(dirname "$0")"
 told=$(mktemp -d)
 trap 'rm -rf "$told"' EXIT
-passed=${XDG_CACHE_HOME:-$HOME/.cache}/cefindrato/passed
+passed=${XDG_CACHE_HOME:-${HOME:-/var/tmp}/.cache}/cefindrato/passed
 if [[ ${1:-} == --anew ]]; then
   passed=$told/passed
 fi
@@ -30,13 +30,14 @@ python3 -B tests/wrong_bodies/toolchain.py .
 ((proved == 0)) || exit "$proved"
 tests/weak_edits.sh "$told/gate"
 
-# What scripts can depend on: the programs, the packages of this machine, and the files of the repository
+# What scripts can depend on: the toolchain, the packages of this machine, the programs, and the files of the repository. What is not there
+# has no line.
 {
-  rt version
-  dpkg-query -W 2> "$told/no_packages" || true
+  rt version || true
+  dpkg-query -W || true
   find crates -mindepth 3 -maxdepth 3 -path '*/out/*' -type f -perm -u+x -print0 | sort -z | xargs -0 sha256sum
-  git ls-files -z --cached --others --exclude-standard | sort -z | xargs -0 sha256sum
-} > "$told/files"
+  git ls-files -z --cached --others --exclude-standard | sort -z | xargs -0 sha256sum || true
+} > "$told/files" 2> "$told/absent"
 
 # all_of SCRIPT: a sum of these, without other scripts, and without documents if it names none; and of the archive of the library
 all_of() {

@@ -9,8 +9,8 @@
 # OTHER.cc, compiled by `g++ -O2` and called with a formula, a proof, and `--chains`; without it, of `drat_check` alone; and the bytes of
 # the LRAT lines. Where `drat_check` takes a second or more, its seconds by the clock follow, and those of `pieces run` with two and with
 # four pieces at a time.
-# Text and binary must be verified, give the same LRAT lines, and `lrat_check` must accept these: else the line says what
-# was wrong, and the script ends with status 1. A proof of more than MOST bytes (40,000,000), or that a solver needs more than LIMIT seconds
+# Text and binary must be verified, give the same LRAT lines, and `lrat_check` must accept these, and those of all pieces, two and four at
+# a time, whose receipts must join: else the line says what was wrong, and the script ends with status 1. A proof of more than MOST bytes (40,000,000), or that a solver needs more than LIMIT seconds
 # for (300), is left out.
 #
 # Formulas, proofs and the solver's seconds are kept in FOLDER, where that is set. The programs are those that `rt run` left in
@@ -27,6 +27,21 @@ mkdir "$work/bin"
 for program in drat_check drat_cut join_check; do
   ln -s "$top/crates/${program}_main/out/${program}_main" "$work/bin/$program"
 done
+
+# A checker of pieces, called as `drat_check`: by their LRAT lines, of which `lrat_check` writes the receipt
+cat > "$work/bin/by_lrat" << END
+#!/usr/bin/env bash
+set -euo pipefail
+lines=\$(mktemp "$work/lines.XXXXXX")
+trap 'rm -f "\$lines"' EXIT
+held=()
+if [[ \$3 == --holds ]]; then
+  held=(--holds "\$4")
+fi
+"$check" "\$1" "\$2" "\${held[@]}" --lrat "\$lines" > /dev/null
+"$lrat_check" "\$1" "\$lines" "\${@:3}"
+END
+chmod +x "$work/bin/by_lrat"
 
 # name | formula | how the proof is made: by a solver with options, by a family of proofs, or by definitions and cadical
 LIST='
@@ -150,6 +165,14 @@ on_cores() {
   done
 }
 
+# by_lines CNF DRAT: whether `lrat_check` shows each piece by its LRAT lines, and the receipts join
+by_lines() {
+  local jobs
+  for jobs in 2 4; do
+    DRAT_CHECK=$work/bin/by_lrat in_pieces "$jobs" "$1" "$2" > "$work/clock" || return 1
+  done
+}
+
 # row NAME CNF DRAT: a line; the status says whether all was as it should be
 row() {
   local cnf=$2 drat=$3 size solver=- counts=0 ours
@@ -182,6 +205,9 @@ row() {
   printf ' %9d' "$(stat -c %s "$work/lrat")"
   if awk '{ exit !($1 >= 1) }' <<< "$ours" && ! on_cores "$cnf" "$drat"; then
     printf ' WRONG: in pieces: %s\n' "$(head -1 "$work/errors")"
+    return 1
+  elif ! by_lines "$cnf" "$drat"; then
+    printf ' WRONG: by the LRAT lines of pieces: %s\n' "$(head -1 "$work/errors")"
     return 1
   fi
   echo
