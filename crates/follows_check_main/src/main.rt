@@ -9,7 +9,7 @@
 //! `RUST_LOG` asks for, as `RUST_LOG=info`, is logged to standard error; else nothing is.
 #![tactic(auto)]
 
-ghost use Rattle.std.specs.Prelude.{◌≡◌, ℕ, List, [], ◌∷◌, None, Ok, Some, IfErr, codes, false, is_some, true};
+ghost use Rattle.std.specs.Prelude.{◌≡◌, ℕ, List, [], ◌∷◌, None, Ok, Some, IfErr, IfOk, codes, false, is_some, true};
 ghost use Rattle.std.specs.Io.KnownBytes.{Appends};
 ghost use Rattle.command.specs.Calls.{choices_of, is_given, operands_of, value_given};
 ghost use Rattle.command.specs.Inputs.{bytes_named};
@@ -72,6 +72,19 @@ fn run<S: OutputSystem, W: Write>(
     if call.has("--example") {
         return Ok(check_example(system, out));
     }
+    let format = format_of(system, call)?;
+    match call.value("--formula") {
+        Some(file) => ask(system, call, format, file, given),
+        None => check(system, call, format, out),
+    }
+}
+
+/// Returns the format of the proof that a call names.
+///
+/// # Errors
+///
+/// The exit status 2 if options exclude each other.
+fn format_of<S: OutputSystem>(system: &S, call: &Call<'_>) -> Result<ProofFormat, u8> {
     let format = match (call.has("--drat"), call.has("--frat"), call.has("--lpr")) {
         (false, false, false) => ProofFormat::Told,
         (true, false, false) => ProofFormat::Drat,
@@ -86,24 +99,66 @@ fn run<S: OutputSystem, W: Write>(
         let why = "--answer excludes --drat, --frat and --lpr";
         return Err(misused(system, &ABOUT, why));
     }
-    match (call.operands.as_slice(), call.value("--formula")) {
-        ([formula, claims], Some(file)) => {
+    Ok(format)
+}
+
+/// Runs a call with `--formula`: it writes this file.
+fn ask<S: OutputSystem>(
+    system: &S,
+    call: &Call<'_>,
+    format: ProofFormat,
+    file: &str,
+    given: &mut S::Names,
+) -> Result<u8, u8>
+    ensures named { (cnf claims text said : List ℕ)
+        → operands_of call.now ≡ cnf ∷ claims ∷ []
+        → bytes_named (S.file_bytes system.now) (S.input_bytes system.now) cnf ≡ Some text
+        → bytes_named (S.file_bytes system.now) (S.input_bytes system.now) claims ≡ Some said
+        → S.unwritten system.now ≡ Some [] → result ≡ Ok 0
+        → NamesQuestion (S.place system.now file.now) (Some text) (Some said)
+        (S.renamed given.old) (S.renamed given.new) }
+    ensures zero { IfOk result (λ status. status ≡ 0) }
+    ensures unnamed { IfErr result (λ status. S.renamed given.new ≡ S.renamed given.old) }
+{
+    match call.operands.as_slice() {
+        [formula, claims] => {
             if call.has("--answer") || format != ProofFormat::Told {
                 return Err(misused(system, &ABOUT, "with --formula nothing is checked"));
             }
             let names = Names::of(formula.as_str(), claims.as_str(), "");
             write_formula(system, names, file, given)
         }
-        ([_, _, _], Some(_)) => {
-            Err(misused(system, &ABOUT, "with --formula nothing is checked"))
-        }
-        ([formula, claims, proof], None) => {
-            let names = Names::of(formula.as_str(), claims.as_str(), proof.as_str());
-            if call.has("--answer") {
-                return check_answer(system, names, out);
-            }
-            check_proof(system, names, format, call, out)
-        }
-        (operands, _) => Err(unnamed(system, &ABOUT, operands.len())),
+        [_, _, _] => Err(misused(system, &ABOUT, "with --formula nothing is checked")),
+        operands => Err(unnamed(system, &ABOUT, operands.len())),
     }
+}
+
+/// Runs a call without `--formula`: it checks a proof or an answer.
+fn check<S: OutputSystem, W: Write>(
+    system: &S,
+    call: &Call<'_>,
+    format: ProofFormat,
+    out: &mut W,
+) -> Result<u8, u8>
+    ensures follows { (cnf claims proof text said : List ℕ)
+        → operands_of call.now ≡ cnf ∷ claims ∷ proof ∷ []
+        → bytes_named (S.file_bytes system.now) (S.input_bytes system.now) cnf ≡ Some text
+        → S.file_bytes system.now claims ≡ Some said
+        → result ≡ Ok 20 → FollowsText text said }
+    ensures fails { (cnf claims answer text said : List ℕ)
+        → operands_of call.now ≡ cnf ∷ claims ∷ answer ∷ []
+        → bytes_named (S.file_bytes system.now) (S.input_bytes system.now) cnf ≡ Some text
+        → S.file_bytes system.now claims ≡ Some said
+        → result ≡ Ok 10 → NotFollowsText text said }
+    ensures unwritten { result ≡ Ok 0 → ⊥ }
+    ensures line { ShowsLine result (W.contents out.old) (W.contents out.new) }
+{
+    let [formula, claims, proof] = call.operands.as_slice() else {
+        return Err(unnamed(system, &ABOUT, call.operands.len()));
+    };
+    let names = Names::of(formula.as_str(), claims.as_str(), proof.as_str());
+    if call.has("--answer") {
+        return check_answer(system, names, out);
+    }
+    check_proof(system, names, format, call, out)
 }
