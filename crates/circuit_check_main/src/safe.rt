@@ -15,7 +15,9 @@ use crate::files::open;
 use crate::options::{Files, PartNames, files_of};
 use crate::parts::{create_outputs, name_outputs, write_outputs};
 use circuit_check::{PartProofs, ProofFormat, exit_status, run_safe};
-use command::{Call, FAILED, OutputSystem, ReadFile, System, WrittenFiles, misused, say_cause};
+use command::{
+    Call, FAILED, OutputSystem, ReadFile, Source, System, WrittenFiles, misused, say_cause,
+};
 use log::sink::Discard;
 use std::io::Write;
 
@@ -82,14 +84,7 @@ fn prove_safe<S: System, W: Write>(
 {
     let machine = open(system, names.machine)?;
     let invariant = open(system, names.invariant)?;
-    let initial = open(system, proofs.initial)?;
-    let step = open(system, proofs.step)?;
-    let bad = open(system, proofs.bad)?;
-    let proofs = PartProofs {
-        initial: initial.file,
-        step: step.file,
-        bad: bad.file,
-    };
+    let proofs = open_proofs(system, proofs)?;
     let outcome = run_safe(
         &Discard,
         system.alloc(),
@@ -101,6 +96,21 @@ fn prove_safe<S: System, W: Write>(
     );
     say_cause(system, &outcome);
     Ok(exit_status(&outcome))
+}
+
+/// Opens three proofs. An Err is that of a file that can't be opened.
+fn open_proofs<S: System>(
+    system: &S,
+    proofs: PartNames<'_>,
+) -> Result<PartProofs<Source<S::File, S::Input>>, u8> {
+    let initial = open(system, proofs.initial)?;
+    let step = open(system, proofs.step)?;
+    let bad = open(system, proofs.bad)?;
+    Ok(PartProofs {
+        initial: initial.file,
+        step: step.file,
+        bad: bad.file,
+    })
 }
 
 /// Writes the three formulas, and returns the exit status. The files have their names once all are

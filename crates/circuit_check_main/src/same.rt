@@ -1,5 +1,5 @@
 //! Two circuits, in files.
-ghost use Rattle.std.specs.Prelude.{◌≡◌, ℕ, List, [], Ok, Some, IfErr, IfOk, codes, false, true};
+ghost use Rattle.std.specs.Prelude.{◌≡◌, ℕ, List, [], Ok, Some, IfErr, IfOk, IfSome, codes, false, true};
 ghost use Rattle.std.specs.Io.KnownBytes.{Appends};
 ghost use Rattle.circuit_answers.specs.Lines.{open_text};
 ghost use Rattle.circuit_check.specs.Answered.{OfDifferent, WritesDifferent};
@@ -96,9 +96,7 @@ fn prove_same<S: System, W: Write>(
     ensures open { result ≡ Ok 3 → Appends (W.contents out.old) (W.contents out.new) open_text }
 {
     let proof = open(system, proof)?;
-    let circuit = open(system, pair.circuit)?;
-    let other = open(system, pair.other)?;
-    let (circuit, other) = read_named(system, circuit, other, pair.rule)?;
+    let (circuit, other) = read_pair(system, pair)?;
     let (circuit, other) = (circuit.as_slice(), other.as_slice());
     let outcome = run_same(
         &Discard,
@@ -133,13 +131,24 @@ fn answer_same<S: System, W: Write>(
     ensures open { result ≡ Ok 3 → Appends (W.contents out.old) (W.contents out.new) open_text }
 {
     let answer = open(system, answer)?;
-    let circuit = open(system, pair.circuit)?;
-    let other = open(system, pair.other)?;
-    let (circuit, other) = read_named(system, circuit, other, pair.rule)?;
+    let (circuit, other) = read_pair(system, pair)?;
     let (circuit, other) = (circuit.as_slice(), other.as_slice());
     let outcome = run_different(system.alloc(), circuit, other, answer.file, out);
     say_cause(system, &outcome);
     Ok(exit_status(&outcome))
+}
+
+/// Opens two circuits, and reads their texts as [`read_named`] does. An Err is that of a file that
+/// can't be opened, or as of [`read_named`].
+fn read_pair<S: System>(system: &S, pair: Pair<'_>) -> Result<(Vec<u8>, Vec<u8>), u8>
+    ensures first { IfOk result (λ texts. IfSome
+        (S.file_bytes system.now pair.entry.circuit.now) (λ bytes. texts.0.items ≡ bytes)) }
+    ensures second { IfOk result (λ texts. IfSome
+        (S.file_bytes system.now pair.entry.other.now) (λ bytes. texts.1.items ≡ bytes)) }
+{
+    let circuit = open(system, pair.circuit)?;
+    let other = open(system, pair.other)?;
+    read_named(system, circuit, other, pair.rule)
 }
 
 /// Writes the formula, and returns the exit status. The file has its name once it is whole, and is
