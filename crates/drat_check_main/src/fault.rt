@@ -1,8 +1,9 @@
 //! What is said of a run that has no verdict, and what was counted.
-use command::{Call, Cost, FaultPlace, StatsForm, System};
+use command::{Call, Cost, FaultPlace, InputNames, StatsForm, System, say_fault};
 use drat_check::{PieceFault, ProofFormat, RunCounts, RunFault};
 use sat_formula::DimacsFault;
 use std::io;
+use verdicts::PieceVerdict;
 
 pub(crate) fn unread_formula(fault: io::Error) -> RunFault {
     RunFault::Formula(DimacsFault::of_error(fault))
@@ -12,12 +13,21 @@ pub(crate) fn unread_wanted(fault: io::Error) -> PieceFault {
     PieceFault::Wanted(DimacsFault::of_error(fault))
 }
 
-/// Returns the place of a run's fault. Target clauses have the name that `--holds` gives.
-pub(crate) fn place_of<'a>(
-    fault: &PieceFault,
+/// Says on standard error why a run has no verdict, and of which file that is.
+pub(crate) fn say_outcome<S: System>(
+    system: &S,
+    names: InputNames<'_>,
     format: ProofFormat,
-    call: &'a Call<'_>,
-) -> FaultPlace<'a> {
+    call: &Call<'_>,
+    outcome: &Result<PieceVerdict, PieceFault>,
+) {
+    if let Err(fault) = outcome {
+        say_fault(system, names, fault, place_of(fault, format, call));
+    }
+}
+
+/// Returns the place of a run's fault. Target clauses have the name that `--holds` gives.
+fn place_of<'a>(fault: &PieceFault, format: ProofFormat, call: &'a Call<'_>) -> FaultPlace<'a> {
     match fault {
         PieceFault::Run(fault) => place_in_run(fault, format, call),
         PieceFault::Wanted(fault) => match call.value("--holds") {
@@ -41,15 +51,31 @@ fn place_in_run<'a>(fault: &RunFault, format: ProofFormat, call: &'a Call<'_>) -
 }
 
 /// Whether a formula was not read whole.
-pub(crate) fn is_unread(fault: &PieceFault) -> bool {
+fn is_unread(fault: &PieceFault) -> bool {
     matches!(
         fault,
         PieceFault::Wanted(_) | PieceFault::Run(RunFault::Formula(_))
     )
 }
 
-/// Prints what a run counted, up to where it ended, and what it cost.
-pub(crate) fn say_stats<S: System>(system: &S, form: StatsForm, counts: RunCounts, cost: Cost) {
+/// Prints what a run counted, up to where it ended, and what it cost, if the call asks for it and
+/// each formula was read whole.
+pub(crate) fn say_wanted_stats<S: System>(
+    system: &S,
+    call: &Call<'_>,
+    outcome: &Result<PieceVerdict, PieceFault>,
+    counts: RunCounts,
+    cost: Cost,
+) {
+    if let Some(form) = StatsForm::of(call)
+        && !outcome.as_ref().is_err_and(is_unread)
+    {
+        say_stats(system, form, counts, cost);
+    }
+}
+
+/// Prints what a run counted, and what it cost.
+fn say_stats<S: System>(system: &S, form: StatsForm, counts: RunCounts, cost: Cost) {
     let counts = [
         ("steps", counts.steps),
         ("lemmas", counts.lemmas),

@@ -12,12 +12,12 @@ ghost use Rattle.verdicts.specs.Verdicts.{shown_line};
 ghost use Rattle.verdicts.specs.declared.verdict.Verdict.TheVariants.{Verified};
 
 use crate::about::ABOUT;
-use crate::fault::{is_unread, place_of, say_stats, unread_formula};
+use crate::fault::{say_outcome, say_wanted_stats, unread_formula};
 use crate::outputs::{Finished, create_outputs};
 use crate::shown::{as_piece, show};
 use command::{
-    Call, Cost, FaultPlace, InputNames, NOT_RUN, OutputSystem, ReadFile, StatsForm, WrittenFiles,
-    open_inputs, progress_of, say_fault, warn_of_header,
+    Call, Cost, FaultPlace, InputNames, NOT_RUN, OutputSystem, ReadFile, WrittenFiles, open_inputs,
+    progress_of, warn_of_header,
 };
 use drat_check::{ProofFormat, exit_status, run_check};
 use receipt_files::hold_digested;
@@ -93,14 +93,8 @@ pub(crate) fn check_files<'a, S: OutputSystem, W: Write>(
     let digests = (cnf.digest, None);
     let checked = as_piece(checked);
     let outcome = show(system, &files, call, finished, digests, checked, given, out);
-    if let Err(fault) = &outcome {
-        say_fault(system, names, fault, place_of(fault, format, call));
-    }
+    say_outcome(system, names, format, call, &outcome);
     warn_of_header(system, names.cnf, &lie);
-    if let Some(form) = StatsForm::of(call)
-        && !outcome.as_ref().is_err_and(is_unread)
-    {
-        say_stats(system, form, counts, cost);
-    }
+    say_wanted_stats(system, call, &outcome, counts, cost);
     Ok(exit_status(&outcome))
 }

@@ -125,29 +125,43 @@ fn format_of<S: OutputSystem>(system: &S, call: &Call<'_>) -> Result<ProofFormat
     ensures trim { IfOk result (λ format. is_given (choices_of call.now) (codes "--holds") ≡ true
         → is_given (choices_of call.now) (codes "--trim") ≡ false) }
 {
-    let format = match (call.has("--drat"), call.has("--frat"), call.has("--lpr")) {
-        (false, false, false) => ProofFormat::Told,
-        (true, false, false) => ProofFormat::Drat,
-        (false, true, false) => ProofFormat::Frat,
-        (false, false, true) => ProofFormat::Lpr,
-        _ => {
-            let why = "--drat, --frat and --lpr exclude each other";
-            return Err(misused(system, &ABOUT, why));
-        }
+    let Some(format) = named_format(call) else {
+        let why = "--drat, --frat and --lpr exclude each other";
+        return Err(misused(system, &ABOUT, why));
     };
+    match misplaced(call) {
+        None => Ok(format),
+        Some(why) => Err(misused(system, &ABOUT, why)),
+    }
+}
+
+/// Returns the format that the options of a call name, or `None` if they name several.
+fn named_format(call: &Call<'_>) -> Option<ProofFormat> {
+    match (call.has("--drat"), call.has("--frat"), call.has("--lpr")) {
+        (false, false, false) => Some(ProofFormat::Told),
+        (true, false, false) => Some(ProofFormat::Drat),
+        (false, true, false) => Some(ProofFormat::Frat),
+        (false, false, true) => Some(ProofFormat::Lpr),
+        _ => None,
+    }
+}
+
+/// Returns why an option of a call does not go with the others, if one does not.
+fn misplaced(call: &Call<'_>) -> Option<&'static str>
+    ensures trim { result ≡ None → is_given (choices_of call.now) (codes "--holds") ≡ true
+        → is_given (choices_of call.now) (codes "--trim") ≡ false }
+{
     if call.has("--binary") && call.value("--lrat").is_none() {
-        return Err(misused(system, &ABOUT, "--binary says how --lrat is written"));
+        return Some("--binary says how --lrat is written");
     }
     if call.has("--holds") && call.has("--trim") {
-        return Err(misused(system, &ABOUT, "--holds excludes --trim"));
+        return Some("--holds excludes --trim");
     }
     if call.has("--holds") && call.has("--lrat") && call.has("--core") {
-        let why = "with --holds, --lrat and --core exclude each other";
-        return Err(misused(system, &ABOUT, why));
+        return Some("with --holds, --lrat and --core exclude each other");
     }
     if call.has("--holds") && call.has("--core") && call.has("--receipt") {
-        let why = "with --holds, --core and --receipt exclude each other";
-        return Err(misused(system, &ABOUT, why));
+        return Some("with --holds, --core and --receipt exclude each other");
     }
-    Ok(format)
+    None
 }

@@ -6,12 +6,12 @@ ghost use Rattle.drat_check_main.specs.Named.{NamesPiece, NamesSome, trim_name};
 ghost use Rattle.drat_check_main.specs.Pieces.{KeepsPiece, ShowsLine, ShowsPiece};
 
 use crate::about::ABOUT;
-use crate::fault::{is_unread, place_of, say_stats, unread_formula, unread_wanted};
+use crate::fault::{say_outcome, say_wanted_stats, unread_formula, unread_wanted};
 use crate::outputs::{Finished, create_outputs};
 use crate::shown::show;
 use command::{
-    Call, Cost, FaultPlace, InputNames, NOT_RUN, OutputSystem, ReadFile, StatsForm, WrittenFiles,
-    open_file, open_inputs, progress_of, say_fault, say_missing, warn_of_header,
+    Call, Cost, FaultPlace, InputNames, NOT_RUN, OutputSystem, ReadFile, WrittenFiles, open_file,
+    open_inputs, progress_of, say_missing, warn_of_header,
 };
 use drat_check::{PieceOutputs, ProofFormat, exit_status, run_piece};
 use receipt_files::hold_digested;
@@ -95,16 +95,10 @@ pub(crate) fn check_piece<'a, S: OutputSystem, W: Write>(
         receipt,
     };
     let outcome = show(system, &files, call, finished, digests, checked, given, out);
-    if let Err(fault) = &outcome {
-        say_fault(system, names, fault, place_of(fault, format, call));
-    }
+    say_outcome(system, names, format, call, &outcome);
     say_missing(system, holds_name, &outputs.missing);
     warn_of_header(system, names.cnf, &outputs.lie);
     warn_of_header(system, holds_name, &outputs.wanted_lie);
-    if let Some(form) = StatsForm::of(call)
-        && !outcome.as_ref().is_err_and(is_unread)
-    {
-        say_stats(system, form, counts, cost);
-    }
+    say_wanted_stats(system, call, &outcome, counts, cost);
     Ok(exit_status(&outcome))
 }
