@@ -16,7 +16,7 @@ use command::{
 };
 use lrat_check::{Ids, RunFault, Verdict, exit_status, run_check};
 use receipt_files::{hold_digested, keep_refuted};
-use sat_formula::DimacsFault;
+use sat_formula::{DimacsFault, LyingHeader};
 use std::io;
 use std::io::{BufWriter, Write};
 
@@ -62,15 +62,8 @@ pub(crate) fn check_files<S: OutputSystem, W: Write>(
     let mut lie = None;
     let checked = run_check(system.alloc(), cnf.held, proof, ids, out, &mut lie);
     let outcome = keep(system, &files, call, receipt, cnf.digest, checked, given);
-    if let Err(fault) = &outcome {
-        say_fault(system, names, fault, place_of(fault));
-    }
-    warn_of_header(system, names.cnf, &lie);
-    if let Some(form) = StatsForm::of(call)
-        && !matches!(outcome, Err(RunFault::Formula(_)))
-    {
-        cost.say(system, form, &[]);
-    }
+    say_outcome(system, names, &outcome, &lie);
+    say_cost(system, call, &outcome, cost);
     Ok(exit_status(&outcome))
 }
 
@@ -103,6 +96,33 @@ fn keep<S: OutputSystem>(
     match keep_refuted(system.alloc(), files, call, receipt, digest, verdict, given) {
         Ok(()) => Ok(verdict),
         Err(fault) => Err(RunFault::Write(fault)),
+    }
+}
+
+/// Says why a run has no verdict, and of a header that does not match.
+fn say_outcome<S: OutputSystem>(
+    system: &S,
+    names: InputNames<'_>,
+    outcome: &Result<Verdict, RunFault>,
+    lie: &Option<LyingHeader>,
+) {
+    if let Err(fault) = outcome {
+        say_fault(system, names, fault, place_of(fault));
+    }
+    warn_of_header(system, names.cnf, lie);
+}
+
+/// Prints what a run cost, if the call asks for it and the formula was read whole.
+fn say_cost<S: OutputSystem>(
+    system: &S,
+    call: &Call<'_>,
+    outcome: &Result<Verdict, RunFault>,
+    cost: Cost,
+) {
+    if let Some(form) = StatsForm::of(call)
+        && !matches!(outcome, Err(RunFault::Formula(_)))
+    {
+        cost.say(system, form, &[]);
     }
 }
 

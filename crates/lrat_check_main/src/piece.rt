@@ -78,11 +78,7 @@ pub(crate) fn check_piece<'a, S: OutputSystem, W: Write>(
     );
     let outcome = keep(system, &files, call, receipt, digests, checked, given);
     say_outcome(system, names, holds_name, &outcome, &told);
-    if let Some(form) = StatsForm::of(call)
-        && !outcome.as_ref().is_err_and(is_unread)
-    {
-        cost.say(system, form, &[]);
-    }
+    say_cost(system, call, &outcome, cost);
     Ok(exit_status(&outcome))
 }
 
@@ -146,6 +142,20 @@ fn say_outcome<S: OutputSystem>(
     say_missing(system, holds_name, &told.missing);
     warn_of_header(system, names.cnf, &told.lie);
     warn_of_header(system, holds_name, &told.wanted_lie);
+}
+
+/// Prints what a run cost, if the call asks for it and both formulas were read whole.
+fn say_cost<S: OutputSystem>(
+    system: &S,
+    call: &Call<'_>,
+    outcome: &Result<PieceVerdict, PieceFault>,
+    cost: Cost,
+) {
+    if let Some(form) = StatsForm::of(call)
+        && !outcome.as_ref().is_err_and(is_unread)
+    {
+        cost.say(system, form, &[]);
+    }
 }
 
 fn unread_wanted(fault: io::Error) -> PieceFault {

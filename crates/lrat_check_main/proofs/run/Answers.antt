@@ -32,3 +32,41 @@ returns-in-None-clause-receipt g c cnf proof text operands alone none known fres
     let formula : bytes_named (g.S.System.file_bytes c.args.system.now)
     (g.S.System.input_bytes c.args.system.now) c.in_ok-names.names.cnf.now ≡ Some text = cc in
     c.check_files.ensures.receipt text formula fresh well
+
+-- a call has target clauses or it has none
+pub returns-in-Some-clause-refutes : goal.returns-in-Some-clause-refutes
+returns-in-Some-clause-refutes g c cnf proof text operands alone none known well =
+    let value = c.in-Some.ensures in absurd (cc)
+
+pub returns-in-Some-clause-line : goal.returns-in-Some-clause-line
+returns-in-Some-clause-line g c none well =
+    let value = c.in-Some.ensures in absurd (cc)
+
+pub returns-in-Some-clause-receipt : goal.returns-in-Some-clause-receipt
+returns-in-Some-clause-receipt g c cnf proof text operands alone none known fresh well =
+    let value = c.in-Some.ensures in absurd (cc)
+
+pub returns-in-None-clause-piece : goal.returns-in-None-clause-piece
+returns-in-None-clause-piece g c cnf proof holds text wanted operands alone said known other well =
+    let value = c.in-None.ensures in absurd (cc)
+
+pub returns-in-None-clause-piece_receipt : goal.returns-in-None-clause-piece_receipt
+returns-in-None-clause-piece_receipt g c cnf proof holds text wanted operands alone said known other fresh well =
+    let value = c.in-None.ensures in absurd (cc)
+
+pub returns-in-None-clause-refutes : goal.returns-in-None-clause-refutes
+returns-in-None-clause-refutes g c cnf proof text operands alone none known well =
+    let names = c.in_ok-names.ensures.ok in
+    let first : cnf ≡ c.in_ok-names.names.cnf.now = cc in
+    let formula : bytes_named (g.S.System.file_bytes c.args.system.now)
+    (g.S.System.input_bytes c.args.system.now) c.in_ok-names.names.cnf.now ≡ Some text = cc in
+    c.check_files.ensures.refutes text formula well
+
+pub returns-in-None-clause-line : goal.returns-in-None-clause-line
+returns-in-None-clause-line g c none = c.check_files.ensures.line
+
+pub returns-in-None-clause-unnamed : goal.returns-in-None-clause-unnamed
+returns-in-None-clause-unnamed g c = c.check_files.ensures.unnamed
+
+pub returns-in-Some-clause-unnamed : goal.returns-in-Some-clause-unnamed
+returns-in-Some-clause-unnamed g c = c.check_piece.ensures.unnamed
