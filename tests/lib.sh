@@ -10,6 +10,16 @@ work=$(mktemp -d)
 trap 'rm -rf "$work"' EXIT
 wrong=0
 
+# Python is started thousands of times, and most of a start is to look for the interpreter, where `python3` is a script that does so, and to
+# load what lies in site-packages, which nothing here needs that is not run by -m: this `python3` does neither.
+if type -P python3 > "$work/where"; then
+  mkdir "$work/.python"
+  interpreter=$(python3 -S -c "import sys; print(sys.executable)")
+  printf '#!/bin/sh\n[ "$1" = -m ] || set -- -S "$@"\nexec "%s" "$@"\n' "$interpreter" > "$work/.python/python3"
+  chmod +x "$work/.python/python3"
+  export PATH=$work/.python:$PATH
+fi
+
 # built NAME: the path of a program, which `rt ci` builds, or `rt run` in its folder. Where it is not built, that ends the script.
 built() {
   local path=$top/crates/$1_main/out/$1_main

@@ -9,6 +9,7 @@ module yaml, its result is compared.
 
 import os
 import re
+import site
 import subprocess
 import sys
 
@@ -87,6 +88,8 @@ def main(folder, runner, *given):
     with open(os.path.join(folder, "action.yml"), encoding="utf-8") as file:
         text = file.read()
     action = parsed(text)
+    # (the scripts start Python without site-packages)
+    site.main()
     try:
         import yaml
     except ImportError:
