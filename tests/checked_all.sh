@@ -7,8 +7,6 @@ set -euo pipefail
 . "$(dirname "$0")/lib.sh"
 on_path drat_check drat_cut join_check lrat_check model_check checked checked_all pieces
 mkdir "$work/room"
-# (what stands for it on PATH may take longer than the script)
-ln -s "$(python3 -c 'import os, sys; print(os.path.realpath(sys.executable))')" "$work/bin/python3"
 export TMPDIR=$work/room
 cd "$work"
 
