@@ -434,7 +434,8 @@ interrupted() {
   rm -f parts/{1,2,3,4,5,6,7,closing}.{drat,receipt}
   touch slow
   set -m
-  "$@" > said 2> err &
+  # (what is started in the background by another script may have been told to pass over interrupts)
+  env --default-signal=INT "$@" > said 2> err &
   pid=$!
   set +m
   for _ in {1..200}; do
