@@ -726,7 +726,8 @@ END
 rm -f begun
 grep -v '^pieces cut' commands > rest
 set -m
-DRAT_CHECK=slow_check bash -euo pipefail rest > said 2> err &
+# (what is started in the background by another script may have been told to pass over interrupts)
+DRAT_CHECK=slow_check env --default-signal=INT bash -euo pipefail rest > said 2> err &
 pid=$!
 set +m
 for _ in {1..600}; do
