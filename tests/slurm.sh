@@ -33,7 +33,9 @@ solver=$(command -v cadical)
 export SLURM_CONF=$work/slurm/slurm.conf
 cd "$work"
 
-# The daemons. They talk by a socket and ports that no other Slurm has.
+# The daemons. They talk by a socket and ports that no other Slurm has. What ends lets the next task begin at once, not at the next of their
+# rounds; `sbatch --wait`, which asks ever more seldom for up to half of MinJobAge, asks every two seconds; and there are places for
+# several tasks a processor, of which fewer are there than an array has tasks.
 host=$(hostname -s)
 user=$(id -un)
 port=$((20000 + $$ % 20000))
@@ -54,6 +56,8 @@ SlurmdSpoolDir=$work/slurm/spool
 SlurmctldPidFile=$work/slurm/slurmctld.pid
 SlurmdPidFile=$work/slurm/slurmd.pid
 SchedulerType=sched/builtin
+SchedulerParameters=batch_sched_delay=0,sched_interval=1
+MinJobAge=4
 SelectType=select/cons_tres
 SelectTypeParameters=CR_CPU
 SlurmdParameters=config_overrides
@@ -62,7 +66,7 @@ MpiDefault=none
 MaxArraySize=1001
 ReturnToService=2
 KillWait=2
-NodeName=$host NodeAddr=127.0.0.1 CPUs=4 RealMemory=8000 State=UNKNOWN
+NodeName=$host NodeAddr=127.0.0.1 CPUs=16 RealMemory=8000 State=UNKNOWN
 PartitionName=main Nodes=ALL Default=YES MaxTime=INFINITE State=UP
 END
 head -c 128 /dev/urandom > slurm/key
