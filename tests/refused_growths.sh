@@ -23,16 +23,40 @@ data=$top/tests/data
 "${CC:-cc}" -O2 -Wall -shared -fPIC -o "$work/fail.so" "$top/tests/refused_growths/fail.c" -ldl
 unset RUST_LOG
 
-# refuse MODE NUMBER COMMAND..: a run with refused growths. It sets `status`, and `refused` to how many there were.
+# There are thousands of runs, so a run starts nothing but the program.
+
+# refuse MODE NUMBER COMMAND..: a run with refused growths. It sets `status`, and `refused` to whether there were any.
 refuse() {
   status=0
-  env "$1=$2" LD_PRELOAD="$work/fail.so" "${@:3}" > "$work/out" 2> "$work/err" 9> "$work/marks" || status=$?
-  refused=$(stat -c %s "$work/marks")
+  (
+    export "$1=$2" LD_PRELOAD="$work/fail.so"
+    exec "${@:3}" > "$work/out" 2> "$work/err" 9> "$work/marks"
+  ) || status=$?
+  refused=0
+  [[ ! -s $work/marks ]] || refused=1
+}
+
+# clear FILE..: removes those that are there
+clear() {
+  local file
+  for file; do
+    [[ ! -e $file ]] || rm "$file"
+  done
 }
 
 misjudged() {
   echo "WRONG $1: status $status, output '$(cat "$work/out")', errors '$(cat "$work/err")'"
   wrong=1
+}
+
+want='^((Error in proof processor|formula|wanted clauses|proof|answer|claims|models|circuit|second circuit|stimulus|error writing): )?out of memory$'
+# wants_memory: whether a line of the errors says so
+wants_memory() {
+  local line
+  while IFS= read -r line || [[ $line ]]; do
+    [[ ! $line =~ $want ]] || return 0
+  done < "$work/err"
+  return 1
 }
 
 # stopped: a run with a refused growth claims nothing: there is no line and no line of hints; the fault is out of memory, or the
@@ -43,7 +67,7 @@ stopped() {
   elif ((status == 2)); then
     unread=$((unread + 1))
   else
-    ((status == 1)) && grep -qE '^((Error in proof processor|formula|wanted clauses|proof|answer|claims|models|circuit|second circuit|stimulus|error writing): )?out of memory$' "$work/err"
+    ((status == 1)) && wants_memory
   fi
 }
 
@@ -53,7 +77,7 @@ run() {
   [[ $line != 's VERIFIED FOLLOWS' ]] || wanted=20
   shift 3
   for ((number = 1; ; number++)); do
-    rm -f "$work/hints"
+    clear "$work/hints"
     refuse "$mode" "$number" "$@"
     if ((refused == 0)); then
       break
@@ -77,7 +101,7 @@ run_logged() {
     RUST_LOG=info refuse FAIL_AT "$number" "$@"
     if ((refused == 0)); then
       break
-    elif [[ $status == 0 && $(cat "$work/out") == "$line" && ! -s $work/err ]]; then
+    elif [[ $status == 0 && ! -s $work/err && $(< "$work/out") == "$line" ]]; then
       silent=$((silent + 1))
     elif ! stopped; then
       misjudged "$name $number"
@@ -112,13 +136,13 @@ run_kept() {
   local name=$1 mode=$2 line=$3 receipt=$4 number unread=0 late=0
   shift 4
   for ((number = 1; ; number++)); do
-    rm -f "$work"/kept*
+    clear "$work"/kept*
     refuse "$mode" "$number" "$@" --receipt "$work/kept"
     if ((refused == 0)); then
       break
-    elif [[ ! -s $work/err || $(compgen -G "$work/kept*") ]]; then
+    elif [[ ! -s $work/err ]] || compgen -G "$work/kept*" > "$work/left"; then
       misjudged "$name $mode=$number: $(compgen -G "$work/kept*")"
-    elif [[ $status == 1 && $(cat "$work/out") == "$line" && $(cat "$work/err") == 'error writing: out of memory' ]]; then
+    elif [[ $status == 1 && $(< "$work/err") == 'error writing: out of memory' && $(< "$work/out") == "$line" ]]; then
       late=$((late + 1))
     elif ! stopped; then
       misjudged "$name $mode=$number"

@@ -12,7 +12,6 @@ import concurrent.futures
 import itertools
 import os
 import re
-import subprocess
 import sys
 import tempfile
 
@@ -58,11 +57,14 @@ def judge(script, said):
 
 def run(program, fail, folder, number):
     """The status and output of a run with a refused growth, and whether there was one."""
-    words = [f"FAIL_AT={number}", f"LD_PRELOAD={fail}", program, "script"]
-    # (the shell itself has all memory)
-    command = ["bash", "-c", 'exec env "$@" 9> marks', "bash", *words]
-    ran = subprocess.run(command, cwd=folder, capture_output=True, text=True, check=False)
-    return ran.returncode, ran.stdout, os.path.getsize(f"{folder}/marks") > 0
+    settings = {**os.environ, "FAIL_AT": str(number), "LD_PRELOAD": fail}
+    flags = os.O_WRONLY | os.O_CREAT | os.O_TRUNC
+    # (no shell between: each start counts here)
+    files = [(os.POSIX_SPAWN_OPEN, at, f"{folder}/{name}", flags, 0o600) for at, name in ((1, "said"), (2, "errors"), (9, "marks"))]
+    child = os.posix_spawn(program, [program, f"{folder}/script"], settings, file_actions=files)
+    status = os.waitstatus_to_exitcode(os.waitpid(child, 0)[1])
+    with open(f"{folder}/said", encoding="ascii") as said:
+        return status, said.read(), os.path.getsize(f"{folder}/marks") > 0
 
 
 def numbers():
