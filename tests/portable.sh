@@ -20,6 +20,25 @@ if ((${#names[@]} == 0)); then
   names=(lrat_check circuit_check)
 fi
 
+# The toolchain, with a compiler that does not compile a module twice: forms are made here several times, and that takes nearly all of the time
+rt=$(command -v "${RT:-rt}")
+kit=$(dirname "$(dirname "$(readlink -f "$rt")")")
+mkdir -p "$work/kit/"{bin,toolchain/bin} "$work/made"
+ln -s "$kit/c" "$work/kit/"
+ln -s "$kit/bin/rattle-link" "$work/kit/bin/"
+ln -s "$kit/toolchain/lib" "$work/kit/toolchain/"
+ln -s "$kit"/toolchain/bin/* "$work/kit/toolchain/bin/"
+cp --remove-destination "$top/tests/portable/clang.sh" "$work/kit/toolchain/bin/clang"
+printf '#!/bin/sh\nexec "%s" "$@"\n' "$rt" > "$work/kit/bin/rt"
+chmod +x "$work/kit/bin/rt"
+export RT=$work/kit/bin/rt CLANG=$kit/toolchain/bin/clang MADE=$work/made
+
+# The modules of all programs at once
+for name in "${names[@]}"; do
+  "$top/tools/portable.sh" --built "$work/at_once/$name" "$name" > "$work/said.$name" 2>&1 &
+done
+wait
+
 # Where wasm2c and the compiler for aarch64 are missing, that is said, and the other forms are made
 out=$work/forms
 mkdir "$work/bin"
@@ -32,7 +51,7 @@ if ! "$top/tools/portable.sh" --built "$out" "${names[@]}" 2> "$work/missing"; t
   mkdir "$work/copy"
   (cd "$top" && tar -c --exclude=./.git --exclude=out --exclude=target . | tar -x -C "$work/copy" &&
     find crates -mindepth 3 -maxdepth 3 \( -path '*/out/rlib' -o -path '*_main/out/*_main' \) -exec cp -a --parents {} "$work/copy" \;)
-  "$work/copy/tools/portable.sh" "$work/first" "${names[@]}"
+  RT=$rt "$work/copy/tools/portable.sh" "$work/first" "${names[@]}"
   "$top/tools/portable.sh" --built "$out" "${names[@]}"
 fi
 PATH=$work/bin "$top/tools/portable.sh" --built "$work/few" "${names[@]}" > "$work/missing" 2>&1
@@ -55,11 +74,25 @@ for change in 'another program' 'no module'; do
   rm -f "$work/tree/$built.bc"
 done
 
-# compiled NAME FORM COMPILER WORD..: a form of the C file
-compiled() {
+# The forms of the C files, all at once. compiles NAME FORM COMPILER WORD..: one of them
+compiles() {
   if [[ -f $out/$1.c ]] && has "$3"; then
-    "${@:3}" -o "$work/$1-$2" "$out/$1.c" -lm > "$work/said" 2>&1 || {
-      cat "$work/said"
+    "${@:3}" -o "$work/$1-$2" "$out/$1.c" -lm > "$work/$1-$2.said" 2>&1 &
+    compilers[$1-$2]=$!
+  fi
+}
+declare -A compilers
+for name in "${names[@]}"; do
+  compiles "$name" gcc gcc -O1
+  compiles "$name" clang clang -O0
+  compiles "$name" tcc tcc
+done
+
+# compiled NAME FORM: adds one to the forms that are compared
+compiled() {
+  if [[ ${compilers[$1-$2]:-} ]]; then
+    wait "${compilers[$1-$2]}" || {
+      cat "$work/$1-$2.said"
       wrong=1
       return
     }
@@ -72,9 +105,9 @@ for name in "${names[@]}"; do
   if has node; then
     forms+=("node=node $out/cefindrato.mjs $name")
   fi
-  compiled "$name" gcc gcc -O1
-  compiled "$name" clang clang -O0
-  compiled "$name" tcc tcc
+  for form in gcc clang tcc; do
+    compiled "$name" "$form"
+  done
   if [[ -f $out/$name-aarch64 ]] && has qemu-aarch64; then
     forms+=("aarch64=qemu-aarch64 $out/$name-aarch64")
   fi
