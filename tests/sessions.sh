@@ -6,23 +6,9 @@
 #
 # The programs must be built: `rt ci` does it, or `rt run` in their folders.
 set -euo pipefail
-
-top=$(cd "$(dirname "$0")/.." && pwd)
-work=$(mktemp -d)
-trap 'rm -rf "$work"' EXIT
-mkdir "$work/bin"
-for program in drat_check lrat_check model_check; do
-  built=$top/crates/${program}_main/out/${program}_main
-  if [[ ! -x $built ]]; then
-    echo "not built: $built"
-    exit 1
-  fi
-  ln -s "$built" "$work/bin/$program"
-done
-ln -s "$top/tools/sessions" "$work/bin/sessions"
-PATH=$work/bin:$PATH
+. "$(dirname "$0")/lib.sh"
+on_path drat_check lrat_check model_check sessions
 cd "$work"
-wrong=0
 
 # ends STATUS OUTPUT COMMAND..: the call must end so, and write this to both streams together
 ends() {

@@ -57,7 +57,7 @@ class Tried:
         self.tools, self.wrong, self.count = tools, 0, 0
 
     def call(self, words):
-        return subprocess.run([sys.executable, "-B", os.path.join(self.tools, words[0]), *words[1:]], capture_output=True, text=True)
+        return subprocess.run([sys.executable, "-SB", os.path.join(self.tools, words[0]), *words[1:]], capture_output=True, text=True)
 
     def one(self, call, which, way, name, folder):
         """The input of this number is what the output of this name leads to."""
