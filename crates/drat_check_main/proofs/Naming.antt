@@ -1,5 +1,5 @@
 -- The outputs of a run, by what it has shown.
-use Rattle.std.proofs.Common.{◌≡◌, ◌≢◌, ◌∙◌, ℕ, ◌⊎◌, inl, inr, true, List, [], Option, Some, None, Result, Ok, Err, ap, refl, subst, sym, rules, is_some, codes, false, option_and_then}
+use Rattle.std.proofs.Common.{◌≡◌, ◌≢◌, ◌∙◌, ℕ, ◌⊎◌, inl, inr, true, List, [], ◌∷◌, Option, Some, None, Result, Ok, Err, ap, refl, subst, sym, rules, is_some, codes, false, option_and_then}
 use Rattle.std.specs.Io.Buffered.{writer_contents}
 use Rattle.std.specs.Io.KnownBytes.{Appends}
 use Rattle.std.specs.Prelude.{IfOk, IsErr, IsNone, IsSome, OnErr}
@@ -13,7 +13,7 @@ use Rattle.drat_check.specs.declared.fault.RunFault.{RunFault}
 use Rattle.drat_check.specs.declared.piece_fault.PieceFault.{PieceFault}
 use Rattle.drat_check.specs.declared.outputs.Outputs.{Outputs}
 use Rattle.drat_check_main.specs.Named.{GivesAll, GivesSome, GivesTwo, LeavesUnshown, NamesPiece, NamesProof, NamesSome, ThenReceipt, core_name, form_asked, lrat_name, trim_name}
-use Rattle.drat_check_main.specs.Pieces.{KeepsPiece, ShowsLine, piece_of}
+use Rattle.drat_check_main.specs.Pieces.{KeepsPiece, ShowsLine, ShowsPiece, piece_of}
 use Rattle.piece_runs.specs.Texts.{CarriesText, OfFormula, OfFormulas}
 use Rattle.receipt_files.specs.Named.{carries_of, refuted_of}
 use Rattle.sat_formula.specs.Refuted.{IsRefuted}
@@ -336,3 +336,27 @@ module _ (place : List ℕ → Option (List ℕ)) (options : List Choice) (text 
   keeps_piece (Ok Carried) zero line carried refuted = inl (line, (carried refl).0, (carried refl).1)
   keeps_piece (Ok NotCarried) zero line carried refuted = absurd (cc)
   keeps_piece (Err fault) zero line carried refuted = absurd (cc)
+
+-- and what it shows
+pub shows_piece : (text wanted : List ℕ) (old new : Option (List ℕ)) {E : Type 0} (r : Result PieceVerdict E)
+    → status_of shows_wanted r ≡ 0 → IfOk r (λ verdict. Appends old new (piece_line verdict))
+    → (r ≡ Ok Carried → CarriesText text wanted) → (r ≡ Ok Refuted → IsRefuted text) → ShowsPiece text wanted old new
+shows_piece text wanted old new (Ok Refuted) zero line carried refuted = inr (line, refuted refl)
+shows_piece text wanted old new (Ok Carried) zero line carried refuted = inl (line, carried refl)
+shows_piece text wanted old new (Ok NotCarried) zero line carried refuted = absurd (cc)
+shows_piece text wanted old new (Err fault) zero line carried refuted = absurd (cc)
+
+-- ---- the operands and an option of a call
+
+pub first_name : (operands : List (List ℕ)) (cnf other cnf' other' : List ℕ) → operands ≡ cnf ∷ other ∷ [] → operands ≡ cnf' ∷ other' ∷ [] → cnf ≡ cnf'
+first_name operands cnf other cnf' other' e e' = cc
+
+module _ (value : Option (List ℕ)) (name : List ℕ) where
+  pub same_value : (name' : List ℕ) → Some name ≡ value → value ≡ Some name' → name' ≡ name
+  same_value name' e e' = cc
+
+  pub some_and_none : Some name ≡ value → value ≡ None → ⊥
+  some_and_none e e' = cc
+
+  pub none_and_some : None ≡ value → value ≡ Some name → ⊥
+  none_and_some e e' = cc

@@ -1,5 +1,4 @@
-use Rattle.std.proofs.Common.{◌≡◌, ◌∙◌, [], arith, subst, Result, IfOk, Some}
-use Rattle.std.proofs.lemmas.Grind.{common_steps}
+use Rattle.std.proofs.Common.{◌≡◌, ◌∙◌, [], ap, subst, Result, IfOk, Some}
 use Rattle.std.specs.Io.KnownBytes.{Appends}
 use Rattle.command.specs.Calls.{choices_of}
 use Rattle.command.specs.Held.{held_in}
@@ -18,7 +17,9 @@ returns-clause-refutes g c text known well =
     let status = c.exit_status.ensures in
     let zero = zero_from c.exit_status.result (status_of shows_wanted c.show-outcome.result) status well in
     let shown = whole_zero c.run_check-checked.result c.show-outcome.result zero (rw c.as_piece-checked.ensures at c.show-outcome.ensures.verdict) in
-    let bytes : Some (held_in c.in_ok-cnf-2.cnf.held) ≡ Some text = grind (arith, common_steps) in
+    let left = rw c.in_ok-cnf.ensures.ok_part at c.open_inputs.ensures.first_bytes in
+    let is : held_in c.in_ok-cnf-2.cnf.held ≡ text = rw (left ∙ known) at c.in_ok-cnf-2.ensures.bytes in
+    let bytes : Some (held_in c.in_ok-cnf-2.cnf.held) ≡ Some text = ap Some is in
     c.run_check-checked.ensures.refutes text bytes shown.0
 
 -- the line is that of the only verdict with this status
@@ -43,11 +44,11 @@ returns-clause-outputs g c text known fresh well =
     let unwritten : g.S.OutputSystem.unwritten c.new-files.result.system.now ≡ Some [] = rw first fresh in
     let later : g.S.OutputSystem.unwritten c.create_outputs.new.files.system.now ≡ Some [] = rw second fresh in
     let run = rw shown.0 at c.run_check-checked.ensures.outputs in
-    let bytes : Some (held_in c.in_ok-cnf-2.cnf.held) ≡ Some text = grind (arith, common_steps) in
-    let is : held_in c.in_ok-cnf-2.cnf.held ≡ text = cc in
-    let value = c.value.ensures in
+    let left = rw c.in_ok-cnf.ensures.ok_part at c.open_inputs.ensures.first_bytes in
+    let is : held_in c.in_ok-cnf-2.cnf.held ≡ text = rw (left ∙ known) at c.in_ok-cnf-2.ensures.bytes in
+    let bytes : Some (held_in c.in_ok-cnf-2.cnf.held) ≡ Some text = ap Some is in
     let made = c.in_ok-receipt.ensures.unwritten later in
-    let empty : written_in g.S.Output.Write.contents c.in_ok-receipt.receipt ≡ begun (receipt_name (choices_of c.args.call.now)) = cc in
+    let empty : written_in g.S.Output.Write.contents c.in_ok-receipt.receipt ≡ begun (receipt_name (choices_of c.args.call.now)) = made ∙ ap begun c.value.ensures in
     let kept = rw same at (c.show-outcome.ensures.refuted text (rw is at c.in_ok-cnf-2.ensures.digest) empty shown.1) in
     record {
       outputs = kept.outputs;

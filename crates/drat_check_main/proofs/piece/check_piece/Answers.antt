@@ -1,12 +1,11 @@
-use Rattle.std.proofs.Common.{◌≡◌, ◌∙◌, ℕ, List, [], ap, arith, Option, None, Some}
-use Rattle.std.proofs.lemmas.Grind.{common_steps}
+use Rattle.std.proofs.Common.{◌≡◌, ◌∙◌, ℕ, List, [], ap, Option, None, Some}
 use Rattle.std.specs.Io.Buffered.{writer_contents}
 use Rattle.command.specs.Calls.{choices_of}
 use Rattle.command.specs.Held.{held_in}
 use Rattle.command.specs.Outputs.{begun, written_in}
 use Rattle.drat_check.specs.Outputs.{bytes_in}
 use Rattle.drat_check_main.specs.Named.{GivesAll, NamesPiece}
-use Rattle.drat_check_main.proofs.Naming.{keeps_piece, names_piece, nonzero_from, piece_some, shows_line, status_wanted, unkept, zero_from}
+use Rattle.drat_check_main.proofs.Naming.{keeps_piece, names_piece, nonzero_from, piece_some, shows_line, shows_piece, status_wanted, unkept, zero_from}
 use Rattle.drat_check_main.proofs.piece.check_piece.Goals as goal
 use Rattle.receipt_files.specs.Named.{IsDigestOf, receipt_name}
 use Rattle.verdicts.specs.Pieces.{shows_wanted}
@@ -31,15 +30,16 @@ returns-clause-outputs g c text wanted known other fresh well =
     let same = c.create_wanted.ensures.system ∙ second in
     let unwritten : g.S.OutputSystem.unwritten c.new-files.result.system.now ≡ Some [] = rw first fresh in
     let later : g.S.OutputSystem.unwritten c.create_outputs.new.files.system.now ≡ Some [] = rw second fresh in
-    let formula : Some (held_in c.in_ok-cnf-2.cnf.held) ≡ Some text = grind (arith, common_steps) in
-    let target : Some (held_in c.in_ok-holds-2.holds.held) ≡ Some wanted = grind (arith, common_steps) in
-    let is : held_in c.in_ok-cnf-2.cnf.held ≡ text = cc in
-    let next : held_in c.in_ok-holds-2.holds.held ≡ wanted = cc in
+    let left = rw c.in_ok-cnf.ensures.ok_part at c.open_inputs.ensures.first_bytes in
+    let left_next = rw c.in_ok-holds.ensures.ok_part at c.open_file.ensures.bytes in
+    let is : held_in c.in_ok-cnf-2.cnf.held ≡ text = rw (left ∙ known) at c.in_ok-cnf-2.ensures.bytes in
+    let next : held_in c.in_ok-holds-2.holds.held ≡ wanted = rw (left_next ∙ other) at c.in_ok-holds-2.ensures.bytes in
+    let formula : Some (held_in c.in_ok-cnf-2.cnf.held) ≡ Some text = ap Some is in
+    let target : Some (held_in c.in_ok-holds-2.holds.held) ≡ Some wanted = ap Some next in
     let taken : IsDigestOf c.in_ok-cnf-2.cnf.digest text = rw is at c.in_ok-cnf-2.ensures.digest in
     let taken_next : IsDigestOf c.in_ok-holds-2.holds.digest wanted = rw next at c.in_ok-holds-2.ensures.digest in
-    let value = c.value.ensures in
     let made = c.in_ok-receipt.ensures.unwritten later in
-    let empty : written_in g.S.Output.Write.contents c.in_ok-receipt.receipt ≡ begun (receipt_name (choices_of c.args.call.now)) = cc in
+    let empty : written_in g.S.Output.Write.contents c.in_ok-receipt.receipt ≡ begun (receipt_name (choices_of c.args.call.now)) = made ∙ ap begun c.value.ensures in
     let more : (named : Option (List (List ℕ × List ℕ)))
     → GivesAll (g.S.OutputSystem.place c.args.system.now) (choices_of c.args.call.now)
     (bytes_in (writer_contents g.S.Output.Write.contents) c.run_piece-checked.new.outputs.lrat) None
@@ -82,3 +82,16 @@ returns-clause-unkept g c fresh none other =
     (c.in_ok-made.ensures.lrat unwritten) (c.in_ok-made.ensures.core unwritten)
     (λ there. ap (bytes_in (writer_contents g.S.Output.Write.contents)) (apart there))
     c.run_piece-checked.ensures.lines c.run_piece-checked.ensures.core left
+
+-- a run with the status 0 has shown what its line says
+pub returns-clause-shows : goal.returns-clause-shows
+returns-clause-shows g c text wanted known other well =
+    let status = c.exit_status.ensures in
+    let zero = zero_from c.exit_status.result (status_of shows_wanted c.show-outcome.result) status well in
+    let left = rw c.in_ok-cnf.ensures.ok_part at c.open_inputs.ensures.first_bytes in
+    let left_next = rw c.in_ok-holds.ensures.ok_part at c.open_file.ensures.bytes in
+    let is : held_in c.in_ok-cnf-2.cnf.held ≡ text = rw (left ∙ known) at c.in_ok-cnf-2.ensures.bytes in
+    let next : held_in c.in_ok-holds-2.holds.held ≡ wanted = rw (left_next ∙ other) at c.in_ok-holds-2.ensures.bytes in
+    shows_piece text wanted _ _ c.show-outcome.result zero c.show-outcome.ensures.line
+    (λ carried. c.run_piece-checked.ensures.carries text wanted (ap Some is) (ap Some next) (rw carried at c.show-outcome.ensures.verdict))
+    (λ refuted. c.run_piece-checked.ensures.refutes text (ap Some is) (rw refuted at c.show-outcome.ensures.verdict))
