@@ -1,66 +1,49 @@
-use Rattle.std.proofs.Common.{◌≡◌, Some}
-use Rattle.command.specs.Inputs.{bytes_named}
+use Rattle.lrat_check_main.proofs.Keeping.{first_name, none_and_some, same_value, some_and_none}
 use Rattle.lrat_check_main.proofs.run.Goals as goal
 
 -- the names are those of the call
 pub returns-in-Some-clause-piece : goal.returns-in-Some-clause-piece
 returns-in-Some-clause-piece g c cnf proof holds text wanted operands alone said known other well =
-    let names = c.in_ok-names.ensures.ok in
-    let first : cnf ≡ c.in_ok-names.names.cnf.now = cc in
-    let value = c.in-Some.ensures in
-    let third : holds ≡ c.in-Some.holds.now = cc in
-    let formula : bytes_named (g.S.System.file_bytes c.args.system.now)
-    (g.S.System.input_bytes c.args.system.now) c.in_ok-names.names.cnf.now ≡ Some text = cc in
-    let target : g.S.System.file_bytes c.args.system.now c.in-Some.holds.now ≡ Some wanted = cc in
-    c.check_piece.ensures.shows text wanted formula target well
+    let first = first_name _ _ _ _ _ operands c.in_ok-names.ensures.ok in
+    let third = same_value _ _ _ c.in-Some.ensures said in
+    c.check_piece.ensures.shows text wanted (rw first at known) (rw third at other) well
 
 pub returns-in-Some-clause-piece_receipt : goal.returns-in-Some-clause-piece_receipt
 returns-in-Some-clause-piece_receipt g c cnf proof holds text wanted operands alone said known other fresh well =
-    let names = c.in_ok-names.ensures.ok in
-    let first : cnf ≡ c.in_ok-names.names.cnf.now = cc in
-    let value = c.in-Some.ensures in
-    let third : holds ≡ c.in-Some.holds.now = cc in
-    let formula : bytes_named (g.S.System.file_bytes c.args.system.now)
-    (g.S.System.input_bytes c.args.system.now) c.in_ok-names.names.cnf.now ≡ Some text = cc in
-    let target : g.S.System.file_bytes c.args.system.now c.in-Some.holds.now ≡ Some wanted = cc in
-    c.check_piece.ensures.receipt text wanted formula target fresh well
+    let first = first_name _ _ _ _ _ operands c.in_ok-names.ensures.ok in
+    let third = same_value _ _ _ c.in-Some.ensures said in
+    c.check_piece.ensures.receipt text wanted (rw first at known) (rw third at other) fresh well
 
 pub returns-in-None-clause-receipt : goal.returns-in-None-clause-receipt
 returns-in-None-clause-receipt g c cnf proof text operands alone none known fresh well =
-    let names = c.in_ok-names.ensures.ok in
-    let first : cnf ≡ c.in_ok-names.names.cnf.now = cc in
-    let formula : bytes_named (g.S.System.file_bytes c.args.system.now)
-    (g.S.System.input_bytes c.args.system.now) c.in_ok-names.names.cnf.now ≡ Some text = cc in
-    c.check_files.ensures.receipt text formula fresh well
+    let first = first_name _ _ _ _ _ operands c.in_ok-names.ensures.ok in
+    c.check_files.ensures.receipt text (rw first at known) fresh well
 
 -- a call has target clauses or it has none
 pub returns-in-Some-clause-refutes : goal.returns-in-Some-clause-refutes
 returns-in-Some-clause-refutes g c cnf proof text operands alone none known well =
-    let value = c.in-Some.ensures in absurd (cc)
+    absurd (some_and_none _ _ c.in-Some.ensures none)
 
 pub returns-in-Some-clause-line : goal.returns-in-Some-clause-line
 returns-in-Some-clause-line g c none well =
-    let value = c.in-Some.ensures in absurd (cc)
+    absurd (some_and_none _ _ c.in-Some.ensures none)
 
 pub returns-in-Some-clause-receipt : goal.returns-in-Some-clause-receipt
 returns-in-Some-clause-receipt g c cnf proof text operands alone none known fresh well =
-    let value = c.in-Some.ensures in absurd (cc)
+    absurd (some_and_none _ _ c.in-Some.ensures none)
 
 pub returns-in-None-clause-piece : goal.returns-in-None-clause-piece
 returns-in-None-clause-piece g c cnf proof holds text wanted operands alone said known other well =
-    let value = c.in-None.ensures in absurd (cc)
+    absurd (none_and_some _ _ c.in-None.ensures said)
 
 pub returns-in-None-clause-piece_receipt : goal.returns-in-None-clause-piece_receipt
 returns-in-None-clause-piece_receipt g c cnf proof holds text wanted operands alone said known other fresh well =
-    let value = c.in-None.ensures in absurd (cc)
+    absurd (none_and_some _ _ c.in-None.ensures said)
 
 pub returns-in-None-clause-refutes : goal.returns-in-None-clause-refutes
 returns-in-None-clause-refutes g c cnf proof text operands alone none known well =
-    let names = c.in_ok-names.ensures.ok in
-    let first : cnf ≡ c.in_ok-names.names.cnf.now = cc in
-    let formula : bytes_named (g.S.System.file_bytes c.args.system.now)
-    (g.S.System.input_bytes c.args.system.now) c.in_ok-names.names.cnf.now ≡ Some text = cc in
-    c.check_files.ensures.refutes text formula well
+    let first = first_name _ _ _ _ _ operands c.in_ok-names.ensures.ok in
+    c.check_files.ensures.refutes text (rw first at known) well
 
 pub returns-in-None-clause-line : goal.returns-in-None-clause-line
 returns-in-None-clause-line g c none = c.check_files.ensures.line
