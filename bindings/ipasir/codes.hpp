@@ -1,9 +1,7 @@
 // Literals by number: see finder.hpp.
 #pragma once
-#include <cstddef>
+#include "row.hpp"
 #include <cstdint>
-#include <cstdlib>
-#include <vector>
 
 namespace cefindrato_ipasir {
 
@@ -26,7 +24,7 @@ class Distinct {
         bool is_found = false;
         for (Code code : clause) {
             if (marks_.size() <= (code | 1)) {
-                marks_.resize(2 * std::size_t{code} + 2, 0);
+                lengthen(marks_, (code | 1) + std::size_t{1});
             }
             is_found |= marks_[opposite(code)];
             if (!marks_[code]) {

@@ -23,13 +23,13 @@ namespace cefindrato_ipasir {
 class Finder {
   public:
     // Derives a lemma in the checker, and says by which id; 0 if it is refused.
-    using Derive = std::function<uint64_t(const Literals &, const Ids &)>;
+    using Derive = std::function<Id(const Literals &, const Ids &)>;
 
     explicit Finder(Derive derive) : derive_(std::move(derive)) {}
     Finder(const Finder &) = delete;
     Finder &operator=(const Finder &) = delete;
 
-    void given(uint64_t id, const Literals &clause) { add(codes(clause), id, true); }
+    void given(Id id, const Literals &clause) { add(codes(clause), id, true); }
     void lemma(const Codes &clause) { add(clause, 0, false); }
 
     void deletion(const Codes &clause) {
@@ -95,20 +95,31 @@ class Finder {
                 left.push_back({place, 0});
             }
         }
-        Ids gone, kept;
+        Ids gone;
         if (refutation_.is_contradictory() || !derive_all(left)) {
             limit_ *= 2;
             return gone;
         }
+        std::vector<bool> is_kept;
         for (Place place = 0; place < clauses_.end(); place = clauses_.after(place)) {
-            (is_left(clauses_[place]) ? kept : gone).push_back(clauses_[place].id);
+            const Clause &clause = clauses_[place];
+            if (!is_left(clause)) {
+                if (clause.id) {
+                    gone.push_back(clause.id);
+                }
+                continue;
+            }
+            if (is_kept.size() <= clause.id) {
+                is_kept.resize(2 * std::size_t{clause.id} + 1);
+            }
+            is_kept[clause.id] = true;
         }
         clauses_.keep(is_left);
         refutation_.begin_again();
-        std::sort(kept.begin(), kept.end());
-        gone.erase(std::remove_if(gone.begin(), gone.end(),
-                                  [&](uint64_t id) { return !id || std::binary_search(kept.begin(), kept.end(), id); }),
-                   gone.end());
+        // (these were long, as seldom else)
+        Refs().swap(hints_);
+        std::vector<Step>().swap(steps_);
+        gone.erase(std::remove_if(gone.begin(), gone.end(), [&](uint64_t id) { return id < is_kept.size() && is_kept[id]; }), gone.end());
         return gone;
     }
 
@@ -128,7 +139,7 @@ class Finder {
         return codes_;
     }
 
-    void add(const Codes &clause, uint64_t id, bool is_given) {
+    void add(const Codes &clause, Id id, bool is_given) {
         if (!contradiction_ && !distinct_.is_tautology(clause)) {
             refutation_.see(distinct_.codes());
             clauses_.add(distinct_.codes(), id, is_given);
@@ -216,7 +227,7 @@ class Finder {
                 lemma_.push_back(literal(code));
             }
         }
-        uint64_t id = derive_(lemma_, ids_);
+        Id id = derive_(lemma_, ids_);
         (step.ref.unit ? units_[variable(step.ref)].id : clauses_[step.ref.place].id) = id;
         if (!id) {
             fault_ = "the checker refuses a lemma of the solver";
@@ -227,12 +238,12 @@ class Finder {
     static std::size_t variable(Ref ref) { return ref.unit >> 1; }
 
     // The id by which the checker knows it, or 0.
-    uint64_t id(Ref ref) {
+    Id id(Ref ref) {
         if (!ref.unit) {
             return clauses_[ref.place].id;
         }
         if (units_.size() <= variable(ref)) {
-            units_.resize(2 * variable(ref), {0, false});
+            lengthen(units_, variable(ref) + 1);
         }
         return units_[variable(ref)].id;
     }
@@ -246,7 +257,7 @@ class Finder {
 
     // A literal that is true by propagation alone: the id of the lemma that says so.
     struct Unit {
-        uint64_t id;
+        Id id;
         bool is_needed;
     };
 
@@ -262,7 +273,7 @@ class Finder {
     Literals lemma_;
     Ids ids_;
     std::size_t limit_ = DEAD_LITERALS;
-    uint64_t contradiction_ = 0;
+    Id contradiction_ = 0;
     std::string fault_;
 };
 

@@ -26,10 +26,10 @@ class Propagation {
     void see(const Codes &codes) {
         for (Code code : codes) {
             if (values_.size() <= code) {
-                std::size_t size = std::max<std::size_t>((code >> 1) + 1, values_.size());
-                variables_.resize(size);
-                values_.resize(2 * size, 0);
-                lists_.resize(2 * size);
+                std::size_t size = (code >> 1) + std::size_t{1};
+                lengthen(variables_, size);
+                lengthen(values_, 2 * size);
+                lengthen(lists_, 2 * size);
             }
         }
     }
@@ -71,11 +71,11 @@ class Propagation {
 
     // Takes back the trial.
     void undo() {
-        while (trail_.size() > roots_) {
-            Code code = trail_.back();
-            values_[code] = values_[opposite(code)] = 0;
-            trail_.pop_back();
+        signed char *values = values_.data();
+        for (std::size_t at = roots_; at < trail_.size(); at++) {
+            values[trail_[at]] = values[opposite(trail_[at])] = 0;
         }
+        trail_.erase(trail_.begin() + roots_, trail_.end());
         next_ = roots_;
     }
 
@@ -100,39 +100,47 @@ class Propagation {
     void watch(Place place) {
         Clause &clause = clauses_[place];
         Code *codes = clause.begin();
-        uint32_t open = 0;
-        for (uint32_t next = 0; next < clause.size && open < 2; next++) {
+        uint32_t open = 0, size = clause.size;
+        for (uint32_t next = 0; next < size && open < 2; next++) {
             if (value(codes[next]) >= 0) {
                 std::swap(codes[open++], codes[next]);
             }
         }
-        for (; open < 2 && open < clause.size; open++) {
+        for (; open < 2 && open < size; open++) {
             auto is_before = [this](Code a, Code b) { return at(a) < at(b); };
-            std::swap(codes[open], *std::max_element(codes + open, clause.end(), is_before));
+            std::swap(codes[open], *std::max_element(codes + open, codes + size, is_before));
         }
-        if (clause.size > 1) {
-            lists_[codes[0]].push_back({place, clause.size == 2, codes[1]});
-            lists_[codes[1]].push_back({place, clause.size == 2, codes[0]});
+        if (size > 1) {
+            lists_[codes[0]].push_back({place, size == 2, codes[1]});
+            lists_[codes[1]].push_back({place, size == 2, codes[0]});
         }
         clause.is_watched = true;
     }
 
     void unwatch(Place place) {
-        clauses_[place].is_watched = false;
-        left_over_ += 2;
+        Clause &clause = clauses_[place];
+        clause.is_watched = false;
+        unwatched_++;
+        if (clause.size > 1) {
+            take_out(clause.begin()[0], place);
+            take_out(clause.begin()[1], place);
+        }
     }
 
-    // Takes what is left over out of the lists, once it is much.
+    // Takes what is left over out of the lists, and gives back most of the memory that they do not need, once much has changed.
     void sweep() {
-        if (left_over_ < 4 * clauses_.count()) {
+        if (unwatched_ < (clauses_.count() + lists_.size()) / 2) {
             return;
         }
         for (Code code = 0; code < lists_.size(); code++) {
-            auto &list = lists_[code];
+            List &list = lists_[code];
             list.erase(std::remove_if(list.begin(), list.end(), [&](const Watch &it) { return !watches(clauses_[it.place], code); }),
                        list.end());
+            if (list.capacity() > list.size() + list.size() / 2 + 3) {
+                list.shrink_to_fit();
+            }
         }
-        left_over_ = 0;
+        unwatched_ = 0;
     }
 
     // Whether two literals of a clause that is now watched are not false.
@@ -144,10 +152,10 @@ class Propagation {
     // Forgets all.
     void clear() {
         for (List &list : lists_) {
-            list.clear();
+            List().swap(list);
         }
         roots_ = 0;
-        left_over_ = 0;
+        unwatched_ = 0;
         places_.clear();
         heads_.clear();
         undo();
@@ -165,9 +173,24 @@ class Propagation {
         Code other;
     };
     using List = std::vector<Watch>;
+    // At how many watches a search for one looks.
+    static constexpr std::size_t LOOKS = 32;
 
     static bool watches(const Clause &clause, Code code) {
         return clause.is_watched && (clause.begin()[0] == code || clause.begin()[1] == code);
+    }
+
+    // Takes a clause out of a list, if it is among the last, as one that lived for now mostly is; else it is left over.
+    void take_out(Code code, Place place) {
+        List &list = lists_[code];
+        std::size_t size = list.size(), last = size - std::min(size, LOOKS);
+        for (std::size_t at = size; at > last; at--) {
+            if (list[at - 1].place == place) {
+                list[at - 1] = list.back();
+                list.pop_back();
+                return;
+            }
+        }
     }
 
     // Makes the literal of a clause a root which the roots before leave alone, and all that follows from it by the clauses up to it.
@@ -194,22 +217,30 @@ class Propagation {
     bool visit(Code code, Place before) {
         List &list = lists_[code];
         const signed char *values = values_.data();
+        Clauses::Base clauses = clauses_.base();
         Watch *kept = list.data(), *it = kept, *end = it + list.size();
         bool is_conflict = false;
-        while (it != end && !is_conflict) {
-            Watch watch = *it++;
-            *kept++ = watch;
-            int value = values[watch.other];
-            if (value > 0 || watch.place >= before) {
+        for (; it != end && !is_conflict; it++) {
+            int value = values[it->other];
+            if (value > 0) {
+                *kept++ = *it;
                 continue;
             }
-            if (!watch.is_pair) {
-                kept -= !follow(clauses_[watch.place], code, kept[-1], is_conflict);
-            } else if (!clauses_[watch.place].is_watched) {
-                kept--;
-            } else {
-                is_conflict = ends(watch.place, watch.other, value);
+            Watch watch = *it;
+            if (watch.place >= before) {
+                *kept++ = watch;
+                continue;
             }
+            Clause &clause = clauses[watch.place];
+            if (!clause.is_watched) {
+                continue;
+            }
+            if (watch.is_pair) {
+                is_conflict = ends(watch.place, watch.other, value);
+            } else if (!follow(clause, code, watch, is_conflict)) {
+                continue;
+            }
+            *kept++ = watch;
         }
         if (kept != it) {
             kept = std::copy(it, end, kept);
@@ -230,11 +261,11 @@ class Propagation {
 
     // Assigns what follows from a clause. Whether it still watches the literal.
     bool follow(Clause &clause, Code code, Watch &watch, bool &is_conflict) {
-        if (!watches(clause, code)) {
-            return false;
-        }
         const signed char *values = values_.data();
         Code *codes = clause.begin(), other = codes[0] ^ codes[1] ^ code;
+        if (codes[0] != code && codes[1] != code) {
+            return false;
+        }
         int value = values[other];
         watch.other = other;
         if (value > 0) {
@@ -264,7 +295,7 @@ class Propagation {
     Codes trail_;
     std::vector<Place> places_, heads_;
     uint32_t roots_ = 0;
-    std::size_t next_ = 0, left_over_ = 0;
+    std::size_t next_ = 0, unwatched_ = 0;
     Place conflict_ = NEVER;
 };
 

@@ -23,7 +23,7 @@ class Refutation {
         trail_.see(codes);
         for (Code code : codes) {
             if (seen_.size() <= code >> 1) {
-                seen_.resize(code + std::size_t{1}, 0);
+                lengthen(seen_, (code >> 1) + std::size_t{1});
             }
         }
     }
@@ -57,7 +57,7 @@ class Refutation {
     // Takes up all clauses again.
     void begin_again() {
         trail_.clear();
-        dead_.clear();
+        dead_.cut(0);
         for (Place place = 0; place < clauses_.end(); place = clauses_.after(place)) {
             if (clauses_[place].died != NEVER) {
                 dead_.push_back(place);
@@ -142,7 +142,6 @@ class Refutation {
     }
 
   private:
-
     // What makes a root true.
     Ref root(Code code) const {
         Place reason = trail_.reason(code);
@@ -244,7 +243,7 @@ class Refutation {
     Codes seen_roots_;
     std::vector<char> seen_;
     // those that died, in this order, and how many of them were taken up, and how many of them still are dead
-    std::vector<Place> dead_;
+    Row<Place> dead_;
     std::size_t buried_ = 0, exhumed_ = 0;
     // those that live for now, and of them those that have less than two literals which the roots do not make false
     std::vector<Place> up_, loose_;

@@ -4,6 +4,7 @@
 #include "session.hpp"
 #include <cadical.hpp>
 #include <cstdio>
+#include <limits>
 
 namespace cefindrato_ipasir {
 
@@ -86,8 +87,9 @@ class Solver : CaDiCaL::WitnessIterator {
 
     // Ends a clause of the application, whose literals the solver has.
     void give(const Literals &clause) {
-        session_.give(++last_, clause);
-        finder_.given(last_, clause);
+        Id id = next_id();
+        session_.give(id, clause);
+        finder_.given(id, clause);
         cadical.add(0);
     }
 
@@ -135,18 +137,26 @@ class Solver : CaDiCaL::WitnessIterator {
         return true;
     }
 
-    uint64_t derive(const Literals &lemma, const Ids &hints) {
-        if (session_.derive(++last_, lemma, hints)) {
-            return last_;
+    Id derive(const Literals &lemma, const Ids &hints) {
+        Id id = next_id();
+        if (session_.derive(id, lemma, hints)) {
+            return id;
         }
         refused_ = session_.cause();
         return 0;
     }
 
+    Id next_id() {
+        if (last_ == std::numeric_limits<Id>::max()) {
+            throw std::bad_alloc();
+        }
+        return ++last_;
+    }
+
     Session &session_;
     Finder finder_;
     Proof proof_;
-    uint64_t last_ = 0;
+    Id last_ = 0;
     std::string refused_;
 };
 

@@ -90,8 +90,8 @@ class Solver : CaDiCaL::Tracer {
     virtual void delete_clause(int64_t id, bool, const Literals &) { remove(id); }
 
     // It may come again, by the same id.
-    virtual void weaken_minus(uint64_t id, const Literals &) { weakened_.insert(id); }
-    virtual void weaken_minus(int64_t id, const Literals &) { weakened_.insert(static_cast<uint64_t>(id)); }
+    virtual void weaken_minus(uint64_t id, const Literals &) { weaken(id); }
+    virtual void weaken_minus(int64_t id, const Literals &) { weaken(static_cast<uint64_t>(id)); }
 
     virtual void conclude_sat(const Literals &model) { model_ = model; }
 
@@ -101,7 +101,9 @@ class Solver : CaDiCaL::Tracer {
   private:
     template <class Id> void give(Id id, bool is_restored) {
         if (is_restored) {
-            weakened_.erase(static_cast<uint64_t>(id));
+            if (is_weakened(static_cast<uint64_t>(id))) {
+                weakened_[static_cast<uint64_t>(id)] = false;
+            }
         } else if (given_) {
             session_.give(static_cast<uint64_t>(id), *given_);
             given_ = nullptr;
@@ -115,8 +117,17 @@ class Solver : CaDiCaL::Tracer {
         }
     }
 
+    void weaken(uint64_t id) {
+        if (weakened_.size() <= id) {
+            lengthen(weakened_, id + 1);
+        }
+        weakened_[id] = true;
+    }
+
+    bool is_weakened(uint64_t id) const { return id < weakened_.size() && weakened_[id]; }
+
     template <class Id> void remove(Id id) {
-        if (!weakened_.count(static_cast<uint64_t>(id))) {
+        if (!is_weakened(static_cast<uint64_t>(id))) {
             session_.remove(static_cast<uint64_t>(id));
         }
     }
@@ -126,7 +137,7 @@ class Solver : CaDiCaL::Tracer {
     Session &session_;
     const Literals *given_ = nullptr;
     Literals model_;
-    std::unordered_set<uint64_t> weakened_;
+    std::vector<bool> weakened_; // by id, since these rise by one
     Ids hints_, conclusion_;
     // ids of clauses that the solver tells none of
     uint64_t own_ = uint64_t{1} << 62;
