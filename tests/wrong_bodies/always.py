@@ -92,7 +92,7 @@ def check(crate, names, room, alone):
     """Checks the copies, and beside them those that are no copies, which nothing here calls: each is changed where it is."""
     asked = names + [it.name for it in alone]
     write_holes(os.path.basename(crate), {it.rpartition("::")[2] for it in asked}, room)
-    for file, old, new in (pair for it in alone for pair in it.pairs):
+    for file, old, new in (edit for it in alone for edit in it.edits):
         with open(f"{room}/{file}", encoding="utf-8") as source:
             text = source.read()
         with open(f"{room}/{file}", "w", encoding="utf-8") as to:

@@ -98,7 +98,7 @@ class WrongBody:
     """A wrong body: lines 'file:', 'old:' and 'new:', as in a must-fail edit.
 
     With a line 'only: FUNCTION' it is no copy: the text is changed where it stands, and this function has to be refused. A line
-    'right:' behind 'new:' is a right body of the same shape, which has to be proved.
+    'right:' behind 'new:' is a right body of the same shape, which has to be proved, as a copy or in place.
     """
 
     def __init__(self, label, text, number):
@@ -149,15 +149,16 @@ class WrongBody:
         head = rf"(?m)^( *(?:pub(?:\([^)]*\))? )?(?:const )?(?:unsafe )?fn ){function.name}\b"
         self.text = re.sub(head, rf"\g<1>{self.name}", whole, count=1)
 
-    def place_alone(self, crate):
-        """Makes the texts of the files that it changes, pair by pair, as the gate does with an edit."""
-        self.name, self.texts = self.only, {}
-        for file, old, new in self.pairs:
+    def place_alone(self, crate, which="wrong"):
+        """Makes the texts of the files that it changes, pair by pair, as the gate does with an edit: wrong or right."""
+        rights = [(file, old, right) for (file, old, _), right in zip(self.pairs, self.rights)]
+        self.name, self.texts, self.edits = self.only, {}, self.pairs if which == "wrong" else rights
+        for file, old, new in self.edits:
             if file not in self.texts:
                 with open(f"{crate}/{file}", encoding="utf-8") as source:
                     self.texts[file] = source.read()
             count = self.texts[file].count(old)
-            if count != 1 or old == new:
+            if count != 1 or which == "wrong" and old == new:
                 raise NoCopy(f"an old text stands there {count} times, or is not changed")
             self.texts[file] = self.texts[file].replace(old, new)
 

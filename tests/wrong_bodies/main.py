@@ -53,7 +53,7 @@ class Trial:
     def __init__(self, name, wanted, after_gate):
         self.name, self.crate, self.after_gate = name, f"{ROOT}/crates/{name}", after_gate
         self.bodies = [it for it in bodies(self.crate) if it[0] in wanted]
-        self.wrongs, self.alone, self.controls, self.rights, self.say = [], [], [], [], []
+        self.wrongs, self.alone, self.controls, self.rights, self.rights_alone, self.say = [], [], [], [], [], []
 
     def begin(self):
         """Proves the crate, unless the gate has done so just before, and places the copies."""
@@ -69,6 +69,10 @@ class Trial:
                 if wrong.only:
                     wrong.place_alone(self.crate)
                     self.alone.append(wrong)
+                    if wrong.has_right():
+                        wrong.right = WrongBody(label, text, number)
+                        wrong.right.place_alone(self.crate, "right")
+                        self.rights_alone.append(wrong.right)
                     continue
                 wrong.place(self.crate)
                 control.place(self.crate, "unchanged")
@@ -87,7 +91,7 @@ class Trial:
     def batches(self):
         copies = self.controls + self.rights + self.wrongs
         size = PROGRAM_BATCH if os.path.exists(f"{self.crate}/src/main.rt") else BATCH
-        return [copies[at : at + size] for at in range(0, len(copies), size)] + [[it] for it in self.alone]
+        return [copies[at : at + size] for at in range(0, len(copies), size)] + [[it] for it in self.alone + self.rights_alone]
 
     def try_batch(self, batch):
         with tempfile.TemporaryDirectory(prefix="wrong-bodies-") as room:
@@ -116,7 +120,7 @@ class Trial:
         for it in self.controls:
             if not (it.said or "").startswith("proved"):
                 say.append(f"{name}/{it.function.name}: THE UNCHANGED COPY IS NOT PROVED: {(it.said or 'no line')[:300]}")
-        for it in self.rights:
+        for it in self.rights + self.rights_alone:
             if not (it.said or "").startswith("proved"):
                 say.append(f"{name}/{it.label}: THE RIGHT BODY IS NOT PROVED: {(it.said or 'no line')[:300]}")
         tried = self.wrongs + self.alone
