@@ -46,7 +46,7 @@ all_of() {
     documents='^$'
   fi
   {
-    grep -v ' tests/[^/]*\.sh$' "$told/files" | grep -Ev "$documents"
+    grep -Ev ' (test|tests/[^/]*)\.sh$' "$told/files" | grep -Ev "$documents"
     cat "$script" tests/lib.sh
     grep -q 'git ' "$script" && git rev-parse HEAD
     cat crates/*/out/*.a
@@ -82,8 +82,8 @@ run() {
 export -f run all_of
 export told passed
 # (two more than there are processors, since at first two wait for the library)
-printf '%s\n' library 'wrong_bodies --asked' release portable slurm refused_growths sessions session_check cubes pieces ipasir failing_files drat_fuzz drat_growth lrat_fuzz drat_outputs install bindings \
-  log_lines listed_files end_to_end rows drat_solvers frat large_formulas named_files examples records checked checked_all verified definitions proof_picture solver_runs prove_and_run memory model_check follows join receipts circuit_check circuits dist packages |
+printf '%s\n' library 'wrong_bodies --asked' portable listed_files release slurm refused_growths sessions session_check cubes pieces ipasir failing_files drat_fuzz drat_growth lrat_fuzz drat_outputs install bindings \
+  log_lines end_to_end rows drat_solvers frat large_formulas named_files examples records checked checked_all verified definitions proof_picture solver_runs prove_and_run memory model_check follows join receipts circuit_check circuits dist packages |
   xargs -P "$(($(nproc) + 2))" -I SCRIPT bash -c 'run SCRIPT'
 
 # What failed is told once more at the end, where it is looked for.

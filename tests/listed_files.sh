@@ -38,7 +38,7 @@ export work
 
 for name in "${programs[@]}"; do
   printf '%s\n' "$name"
-done | xargs -P 2 -I NAME bash -c 'tried NAME && touch "$work/NAME.passed" || true'
+done | xargs -P 3 -I NAME bash -c 'tried NAME && touch "$work/NAME.passed" || true'
 for name in "${programs[@]}"; do
   if [[ -e $work/$name.passed ]]; then
     echo "ok    $name"
