@@ -39,14 +39,15 @@ tests/weak_edits.sh "$told/gate"
   git ls-files -z --cached --others --exclude-standard | sort -z | xargs -0 sha256sum || true
 } > "$told/files" 2> "$told/absent"
 
-# all_of SCRIPT: a sum of these, without other scripts, and without documents if it names none; and of the archive of the library
+# all_of SCRIPT: a sum of these, without other scripts, proofs and wrong bodies, and without documents if it names none; and of the archive
+# of the library
 all_of() {
   local script=tests/$1.sh documents='\.md$'
   if grep -rqs 'docs/\|\.md' "$script" "tests/$1"; then
     documents='^$'
   fi
   {
-    grep -Ev ' (test|tests/[^/]*)\.sh$' "$told/files" | grep -Ev "$documents"
+    grep -Ev ' (test\.sh|tests/[^/]*\.sh|crates/[^/]*/(proofs|wrong-bodies)/.*)$' "$told/files" | grep -Ev "$documents"
     cat "$script" tests/lib.sh
     grep -q 'git ' "$script" && git rev-parse HEAD
     cat crates/*/out/*.a
