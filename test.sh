@@ -39,8 +39,7 @@ tests/weak_edits.sh "$told/gate"
   git ls-files -z --cached --others --exclude-standard | sort -z | xargs -0 sha256sum || true
 } > "$told/files" 2> "$told/absent"
 
-# all_of SCRIPT: a sum of these, without other scripts, proofs and wrong bodies, and without documents if it names none; and of the archive
-# of the library
+# all_of SCRIPT: a sum of these, without other scripts, proofs and wrong bodies, and without documents if it names none
 all_of() {
   local script=tests/$1.sh documents='\.md$'
   if grep -rqs 'docs/\|\.md' "$script" "tests/$1"; then
@@ -50,22 +49,26 @@ all_of() {
     grep -Ev ' (test\.sh|tests/[^/]*\.sh|crates/[^/]*/(proofs|wrong-bodies)/.*)$' "$told/files" | grep -Ev "$documents"
     cat "$script" tests/lib.sh
     grep -q 'git ' "$script" && git rev-parse HEAD
-    cat crates/*/out/*.a
   } 2> "$told/$1.none" | sha256sum | cut -c 1-64
 }
 
 # run SCRIPT [WORD ..]: its lines, its name and its seconds, together; a name that is left in `failed` if it failed. What uses the archive of the
-# library waits until it is made, but not for ever.
+# library waits until it is made, but not for ever. `rt ci` takes the archive away: what is noted of `library` is a copy of it.
 run() {
-  local status=0
+  local status=0 noted
   if [[ " bindings install ipasir release " == *" $1 "* ]]; then
     for ((waited = 0; waited < 1800; waited++)); do
       [[ ! -e $told/library.ended ]] || break
       sleep 1
     done
   fi
-  if [[ -e $passed/$(all_of "$1") && $1 != wrong_bodies ]]; then
+  noted=$passed/$1.$(all_of "$1")
+  if [[ -e $noted && $1 != wrong_bodies ]]; then
     echo "tests/$1.sh has passed on this machine over the same files"
+    if [[ $1 == library ]]; then
+      mkdir -p "${archive%/*}"
+      cp "$noted" "$archive"
+    fi
     touch "$told/$1.ended"
     return
   fi
@@ -73,15 +76,19 @@ run() {
   "tests/$1.sh" "${@:2}" > "$told/$1" 2>&1 || status=$?
   cat "$told/$1"
   echo "tests/$1.sh ended with status $status after $SECONDS s"
-  if [[ $status == 0 ]]; then
-    touch "$passed/$(all_of "$1")"
-  else
+  if [[ $status != 0 ]]; then
     echo "$1" >> "$told/failed"
+  elif [[ $1 != library ]]; then
+    touch "$noted"
+  elif [[ -e $archive ]]; then
+    rm -f "$passed"/library.*
+    cp "$archive" "$noted"
   fi
   touch "$told/$1.ended"
 }
 export -f run all_of
-export told passed
+archive=$(bindings/build.sh --archive)
+export told passed archive
 # (two more than there are processors, since at first two wait for the library)
 printf '%s\n' library 'wrong_bodies --asked' portable listed_files release slurm refused_growths sessions session_check cubes pieces ipasir failing_files drat_fuzz drat_growth lrat_fuzz drat_outputs install bindings \
   log_lines end_to_end rows drat_solvers frat large_formulas named_files examples records checked checked_all verified definitions proof_picture solver_runs prove_and_run memory model_check follows join receipts circuit_check circuits dist packages |

@@ -28,7 +28,7 @@ CLAIMS = {
     "REACHED": ("crates/circuit_check/specs/Claims.antt", "IsReachedText"),
 }
 # What is not followed: what a text is read as.
-READ = ("crates/circuit_text/specs/Aigers.antt", "crates/whole_formulas/specs/Lies.antt", "crates/sat_formula/specs/")
+READ = ("crates/circuit_text/specs/Aigers.antt", "crates/sat_formula/specs/")
 
 DECLARED = re.compile(r"(?:abbrev|unfoldable) pub (\w+) :|pub (?:data|record) (\w+)\b")
 CONSTRUCTOR = re.compile(r"  (\w+) : ")
@@ -74,7 +74,7 @@ CLAIMS_HEAD = """
 # What the lines of claims mean
 
 Each is the definition in its contract, with all that it reaches and that is not above, except how a text is read: a formula's as above, \
-its header by `crates/whole_formulas/specs/Lies.antt`, a circuit's by `crates/circuit_text/specs/Aigers.antt`. A record holds if all its \
+its header by `crates/sat_formula/specs/Lies.antt`, a circuit's by `crates/circuit_text/specs/Aigers.antt`. A record holds if all its \
 fields do; a field that is no claim, as `clauses`, exists.
 """
 

@@ -92,59 +92,6 @@ lines() {
   [[ $(wc -l < random.json) == "$1" ]]
 }
 
-# Random formulas, by the solvers that are there, all into one file. Each call is interrupted when one formula is left, and made again:
-# then only this formula is solved. For minisat a refuted formula is a rejected answer.
-"${judged[@]}" make random "${FORMULAS:-30}" 1
-refuted=$(grep -c UNSAT random.truth)
-satisfied=$(grep -vc UNSAT random.truth)
-if ((refuted < 5 || satisfied < 5)); then
-  echo "of the random formulas $refuted are refuted, and $satisfied can be satisfied"
-  wrong=1
-fi
-: > random.json
-rows=0
-for name in cadical picosat cryptominisat5 minisat; do
-  has "$name" || continue
-  stopping "$name"
-  call=(checked --all 'random/*.cnf' --solver "$name-stopping" --jobs 2 --limit 100 --json random.json)
-  echo 07.cnf > slow
-  : > pids
-  status=0
-  set -m
-  heeding "${call[@]}" > said 2> err &
-  pid=$!
-  set +m
-  until_so lines "$((rows + refuted + satisfied - 1))"
-  kill -TERM "$pid"
-  wait "$pid" || status=$?
-  same "an interrupted call of $name" '143 ' "$status $(cat said err)"
-  ended "an interrupted call of $name"
-  echo none > slow
-  if [[ $name == minisat ]]; then
-    ends 1 "$(counts 0 "$satisfied" 0 "$refuted")" "${call[@]}"
-    "${judged[@]}" rows random.json random.truth rejected "$name-stopping" || wrong=1
-  else
-    ends 0 "$(counts "$refuted" "$satisfied" 0 0)" "${call[@]}"
-    "${judged[@]}" rows random.json random.truth 's VERIFIED UNSAT' "$name-stopping" || wrong=1
-  fi
-  rows=$((rows + refuted + satisfied))
-  lines "$rows" || {
-    echo "$name: a formula has no row, or two"
-    wrong=1
-  }
-done
-if ((rows)); then
-  ends 0 "all rows fit: $rows" checked_all --audit random.json
-fi
-if has cadical; then
-  # another call of a solver has its own rows
-  head -n 5 random.truth > few.truth
-  ends 0 "$(counts "$(grep -c UNSAT few.truth)" "$(grep -vc UNSAT few.truth)" 0 0)" checked_all random/0[0-4].cnf --solver 'cadical --seed=7' --json random.json
-  "${judged[@]}" rows random.json few.truth 's VERIFIED UNSAT' cadical --seed=7 || wrong=1
-  ends 0 "$(counts 1 0 0 0)" checked_all "$(sed -n 's/\t.*UNSAT//p' random.truth | head -n 1)" --solver cadical --while
-fi
-rm -f random.json slow pids
-
 printf 'p cnf 2 4\n1 2 0\n1 -2 0\n-1 2 0\n-1 -2 0\n' > four.cnf
 printf 'p cnf 3 3\n1 2 0\n-1 3 0\n-2 -3 0\n' > other.cnf
 solver refuter << 'END'
@@ -157,8 +104,83 @@ solver right << 'END'
 grep -q '^1 -2' "$1" && exec refuter "$@" || exec finder "$@"
 END
 
-for rows in outcomes continued audited outputs calls; do
+# Random formulas, by the solvers that are there, all into one file. Each call is interrupted when one formula is left, and made again:
+# then only this formula is solved. For minisat a refuted formula is a rejected answer.
+case_solvers() {
+  "${judged[@]}" make random "${FORMULAS:-30}" 1
+  refuted=$(grep -c UNSAT random.truth)
+  satisfied=$(grep -vc UNSAT random.truth)
+  if ((refuted < 5 || satisfied < 5)); then
+    echo "of the random formulas $refuted are refuted, and $satisfied can be satisfied"
+    wrong=1
+  fi
+  : > random.json
+  rows=0
+  for name in cadical picosat cryptominisat5 minisat; do
+    has "$name" || continue
+    stopping "$name"
+    call=(checked --all 'random/*.cnf' --solver "$name-stopping" --jobs 2 --limit 100 --json random.json)
+    echo 07.cnf > slow
+    : > pids
+    status=0
+    set -m
+    heeding "${call[@]}" > said 2> err &
+    pid=$!
+    set +m
+    until_so lines "$((rows + refuted + satisfied - 1))"
+    kill -TERM "$pid"
+    wait "$pid" || status=$?
+    same "an interrupted call of $name" '143 ' "$status $(cat said err)"
+    ended "an interrupted call of $name"
+    echo none > slow
+    if [[ $name == minisat ]]; then
+      ends 1 "$(counts 0 "$satisfied" 0 "$refuted")" "${call[@]}"
+      "${judged[@]}" rows random.json random.truth rejected "$name-stopping" || wrong=1
+    else
+      ends 0 "$(counts "$refuted" "$satisfied" 0 0)" "${call[@]}"
+      "${judged[@]}" rows random.json random.truth 's VERIFIED UNSAT' "$name-stopping" || wrong=1
+    fi
+    rows=$((rows + refuted + satisfied))
+    lines "$rows" || {
+      echo "$name: a formula has no row, or two"
+      wrong=1
+    }
+  done
+  if ((rows)); then
+    ends 0 "all rows fit: $rows" checked_all --audit random.json
+  fi
+  if has cadical; then
+    # another call of a solver has its own rows
+    head -n 5 random.truth > few.truth
+    ends 0 "$(counts "$(grep -c UNSAT few.truth)" "$(grep -vc UNSAT few.truth)" 0 0)" checked_all random/0[0-4].cnf --solver 'cadical --seed=7' --json random.json
+    "${judged[@]}" rows random.json few.truth 's VERIFIED UNSAT' cadical --seed=7 || wrong=1
+    ends 0 "$(counts 1 0 0 0)" checked_all "$(sed -n 's/\t.*UNSAT//p' random.truth | head -n 1)" --solver cadical --while
+  fi
+}
+
+case_outcomes() {
   # shellcheck source=/dev/null
-  . "$top/tests/checked_all/$rows.sh"
-done
-exit "$wrong"
+  . "$top/tests/checked_all/outcomes.sh"
+}
+
+case_continued() {
+  # shellcheck source=/dev/null
+  . "$top/tests/checked_all/continued.sh"
+}
+
+case_audited() {
+  # shellcheck source=/dev/null
+  . "$top/tests/checked_all/audited.sh"
+}
+
+case_outputs() {
+  # shellcheck source=/dev/null
+  . "$top/tests/checked_all/outputs.sh"
+}
+
+case_calls() {
+  # shellcheck source=/dev/null
+  . "$top/tests/checked_all/calls.sh"
+}
+
+try_cases

@@ -11,11 +11,16 @@ check=$(built drat_check)
 lrat_check=$(built lrat_check)
 cd "$work"
 
+# given: the formula f and the proof p
+given() {
+  printf 'p cnf 4 5\n1 2 0\n1 -2 0\n-1 2 0\n-1 -2 0\n3 4 0\n' > f
+  printf '1 0\nd 1 2 0\n0\n' > p
+}
+
 # wants STATUS OUTPUT ERRORS ARGUMENT..: a run over the formula f and the proof p must do this, and leave both as they are
 wants() {
   local status=0
-  printf 'p cnf 4 5\n1 2 0\n1 -2 0\n-1 2 0\n-1 -2 0\n3 4 0\n' > f
-  printf '1 0\nd 1 2 0\n0\n' > p
+  given
   cp f f.before
   cp p p.before
   ln -f p hard
@@ -126,297 +131,337 @@ binary_lines() {
   fi
 }
 
-wants 0 's VERIFIED UNSAT' '' f p --lrat l --core c
-outputs four f p
-binary_lines four f p
-[[ $(clauses core) != *'3 4 0'* ]] || fault 'a clause that is not needed stands in the core'
-formula random 150 4.8 1 > random.cnf
-if command -v cadical > where; then
-  cadical -q random.cnf random.drat > said 2>&1 || true
-  outputs random random.cnf random.drat
-  binary_lines random random.cnf random.drat
-fi
-for holes in 6 9; do
-  formula pigeons "$holes" > pigeons.cnf
-  for family in extended swaps exchanges; do
-    formula "$family" "$holes" > pigeons.drat
-    outputs "$family $holes" pigeons.cnf pigeons.drat
-    binary_lines "$family $holes" pigeons.cnf pigeons.drat
-  done
-done
-# a clause that is not used, and without which alone a step is redundant
-formula pigeons 4 > pigeons.cnf
-formula extended 4 > pigeons.drat
-(sed '1s/.*/p cnf 99 46/' pigeons.cnf && echo '-21 99 0') > away.cnf
-(echo 'd -21 99 0' && cat pigeons.drat) > away.drat
-outputs 'a clause that is away' away.cnf away.drat
-binary_lines 'a clause that is away' away.cnf away.drat
-[[ $(clauses core) != *'-21 99 0'* ]] || fault 'a clause that is away stands in the core'
-formula pairs 4 > pairs.cnf
-formula pair_exchanges 4 > pairs.dpr
-outputs 'pair_exchanges 4' pairs.cnf pairs.dpr
-binary_lines 'pair_exchanges 4' pairs.cnf pairs.dpr
-printf 'o 1 1 2 0\no 2 1 -2 0\no 3 -1 2 0\no 4 -1 -2 0\na 6 1 0\nd 1 1 2 0\na 7 0\n' > four.frat
-outputs 'four as FRAT' f four.frat
-
-# what is written has its name once it is whole: a run that is killed leaves what stood there, and beside it what it wrote, which
-# nobody takes away; here nothing is written yet
-mkfifo hold
-exec 6<> hold
-for signal in INT KILL; do
-  keep l c
-  rm -f l.*.new c.*.new
-  # in the background a shell has a program ignore INT
-  env --default-signal=INT "$check" f - --lrat l --core c < hold > out 2> err &
-  run=$!
-  for ((tries = 0; tries < 200; tries++)); do
-    [[ ! -e l.$run.new || ! -e c.$run.new ]] || break
-    sleep 0.05
-  done
-  kill -s "$signal" "$run"
-  wait "$run" 2> said || true
-  kept "$signal" l c
-  left=$(compgen -G '[lc].*.new' | sort) || true
-  [[ $left == c.*.new*l.*.new && ! -s out ]] || fault "$signal: no run was killed"
-  wants 0 's VERIFIED UNSAT' '' f p --lrat l --core c
-  [[ $(compgen -G '[lc].*.new' | sort) == "$left" ]] || fault "after $signal: $(compgen -G '[lc].*.new') in place of $left"
-  [[ $("$lrat_check" f l) == 's VERIFIED UNSAT' ]] || fault "the lines after $signal"
-done
-# here the lines are written in part, and here whole, and the clauses in part: a file may not be longer, and a pipe is full. Each
-# clause makes the next variable true, so one step is the proof, and its lines and the core are long.
-awk 'BEGIN { n = 20000; print "p cnf", n, n + 1; print "1 0"; for (i = 1; i < n; i++) print -i, i + 1, 0; print -n, 0 }' > chain.cnf
-printf '0\n' > end
-keep l c
-(ulimit -c 0 -f 16 && exec "$check" chain.cnf end --lrat l --core c) > out 2> err || true
-kept 'cut off' l c
-[[ ! -s out ]] || fault 'a verdict beside lines that are cut off'
-rm -f l.*.new c.*.new
-for signal in INT KILL; do
-  keep l
-  rm -f l.*.new
-  env --default-signal=INT "$check" chain.cnf end --lrat l --core hold > out 2> err &
-  run=$!
-  for ((tries = 0; tries < 200; tries++)); do
-    [[ ! -s l.$run.new || $(tail -n 1 "l.$run.new") != *' 0' ]] || break
-    sleep 0.05
-  done
-  kill -s "$signal" "$run"
-  wait "$run" 2> said || true
-  kept "$signal at the core" l
-  [[ $("$lrat_check" chain.cnf "l.$run.new") == 's VERIFIED UNSAT' && ! -s out ]] || fault "$signal: the run was not killed at the core"
-done
-exec 6>&-
-rm -f l.*.new
-"$check" chain.cnf end --lrat l > out
-[[ $("$lrat_check" chain.cnf l) == 's VERIFIED UNSAT' ]] || fault 'the lines of the chain'
-alone 'the chain' l
-
-# links lead to the file that is written, which keeps its permissions
-rm -f l real
-keep real
-chmod 600 real
-ln -s real l
-wants 0 's VERIFIED UNSAT' '' f p --lrat l
-[[ -L l && $("$lrat_check" f real) == 's VERIFIED UNSAT' && $(stat -c %a real) == 600 ]] || fault 'the lines behind a link'
-alone 'a link' l real
-rm l
-
-# two runs that write one name at once have a file each, and the name is that of the later one
-printf '2 0\n0\n' > other.p
-"$check" f other.p --lrat other.l > out
-mkfifo slow
-"$check" f slow --lrat l > out.slow 2> err.slow &
-run=$!
-exec 7> slow
-for ((tries = 0; tries < 200; tries++)); do
-  [[ -z $(compgen -G 'l.*.new') ]] || break
-  sleep 0.05
-done
-sleep 0.5
-wants 0 's VERIFIED UNSAT' '' f p --lrat l
-[[ $("$lrat_check" f l) == 's VERIFIED UNSAT' ]] && ! cmp -s l other.l || fault 'the lines of the first of two runs at once'
-cat other.p >&7
-exec 7>&-
-status=0
-wait "$run" || status=$?
-[[ $status == 0 && $(cat out.slow) == 's VERIFIED UNSAT' && ! -s err.slow ]] || fault "two runs at once: status $status, $(cat out.slow err.slow)"
-cmp -s l other.l || fault 'the lines of the second of two runs at once'
-alone 'two runs at once' l
-
-# a file that is not of this run stays, also one of the name that the run would take first
-# numbered ARGUMENT..: such a file is there, and the program has the number in its name
-numbered() {
-  printf kept > "l.$BASHPID.new"
-  exec "$check" "$@"
-}
-for proof in p malformed.p; do
-  printf '1 x 0\n' > malformed.p
-  keep l.new
-  (numbered f "$proof" --lrat l) > out 2> err || true
-  kept "a stranger's file" l.new l.*.new
-  rm l.*.new l.new
-done
-
-# a beginning of the lines is no proof, and one of the clauses is not what its header says
-"$check" f p --lrat l --core c > out
-head -n -1 l > begun.lines
-head -n -1 c > begun.clauses
-said=$("$lrat_check" f begun.lines) || true
-[[ $said == 's NOT VERIFIED' ]] || fault "a beginning of the lines: $said"
-"$check" begun.clauses p > out 2> err || true
-grep -q '^warning: the header of begun.clauses is ' err || fault "a beginning of the clauses: $(cat out err)"
-
-# where the proof shows nothing, what stood there is replaced by nothing; where it is refused, it stays
+given
 printf '1 x 0\n' > malformed
-printf 'd 1 2 0\n1 0\n' > unfounded
-printf '' > open
-keep l c
-wants 3 's NOT VERIFIED' '' f open --lrat l --core c
-empty l c
-keep l c
-wants 1 '' $'proof: step 1: malformed\nin malformed' f malformed --lrat l --core c
-kept malformed l c
-wants 1 '' $'proof: step 2: clause neither follows nor is redundant by its first literal\nin unfounded' \
-  f unfounded --core c --lrat l
-kept unfounded l c
-wants 1 '' $'formula: line 1: bad number\nin malformed\nbad number: x' malformed p --lrat l --core c
-kept 'no formula' l c
-alone 'no verdict' l c
-
-# an output that is a file that is read, or the other output
-for output in f p ./f ./p "$PWD/p" hard soft; do
-  for option in --lrat --core; do
-    wants 2 '' "cannot open $output"$'\n'"the output is a file that is read" f p "$option" "$output"
-  done
-  printf 'kept' > l
-  for arguments in "--lrat l --core $output" "--core l --lrat $output"; do
-    # shellcheck disable=SC2086
-    wants 2 '' "cannot open $output"$'\n'"the output is a file that is read" f p $arguments
-    [[ $(cat l) == kept ]] || fault "the other output is emptied: $arguments"
-  done
-done
-printf 'kept' > same
-ln -f same other
-for output in same ./same other; do
-  wants 2 '' "cannot open $output"$'\n'"both outputs are one file" f p --lrat same --core "$output"
-  [[ $(cat same) == kept ]] || fault "one file is emptied: $output"
-done
-wants 2 '' $'cannot open ./new\nboth outputs are one file' f p --lrat new --core ./new
-kept 'names in conflict' same
-cp p same.new
-wants 0 's VERIFIED UNSAT' '' f same.new --lrat same
-cmp -s p same.new || fault 'a proof is taken away'
-wants 0 's VERIFIED UNSAT' '' f p --lrat same --core same.new
-[[ $("$lrat_check" f same) == 's VERIFIED UNSAT' && $("$check" same.new p) == 's VERIFIED UNSAT' ]] || fault 'the names same and same.new'
-alone 'outputs that are refused' l same same.new new
-# a name that is empty, and links that lead to nothing: nothing is read, made or taken away
-keep .new
-ln -s nowhere dangling
-ln -s itself itself
-for option in --lrat --trim --core; do
-  wants 2 '' $'cannot open \nthe name of an output is empty' f p "$option" ''
-  wants 2 '' $'cannot open \nthe name of an output is empty' f p "$option="
-  for output in dangling itself; do
-    wants 2 '' "cannot open $output"$'\nthe output is a link that leads to nothing' f p "$option" "$output"
-  done
-done
-kept 'a name that is empty' .new
-[[ -L dangling && -L itself && ! -e nowhere && -z $(compgen -G '*.*.new') ]] || fault "links to nothing: $(ls -A)"
-wants 2 '' $'cannot open /dev/null\nboth outputs are one file' f p --lrat /dev/null --core /dev/null
-wants 0 's VERIFIED UNSAT' '' f p --lrat /dev/null --core c
-
-# a disk that is full: no line of a verdict, and the file is named
-wants 1 '' $'error writing: No space left on device (os error 28)\nin /dev/full' f p --lrat /dev/full --core c
-wants 1 '' $'error writing: No space left on device (os error 28)\nin /dev/full' f p --core /dev/full --lrat l
-wants 1 '' $'error writing: No space left on device (os error 28)\nin /dev/full' f p --trim /dev/full --lrat l
-alone 'no verdict' l c
-
-# one piece of a proof: its lines are accepted, and do not refute; a clause that is gone, one that is turned round, a conflict
 printf '1 2 0\n1 -2 0\n-1 3 0\n' > three
 printf '1 0\nd 1 2 0\n' > piece
 printf '3 -1 0\n1 0\n' > next
 printf '1 0\n1 2 0\n' > gone
-printf '1 0\n-1 -3 0\n' > turned
-wants 0 's VERIFIED PIECE' '' three piece --holds next --lrat l
-said=$("$lrat_check" three l 2> err) || true
-[[ $said == 's NOT VERIFIED' && $(tail -n 1 l) == '5 3 -1 0 3 0' ]] || fault "the lines of a piece: $said $(cat err l)"
-wants 0 's VERIFIED PIECE' '' three piece --holds next --lrat l --binary
-said=$("$lrat_check" three l 2> err) || true
-[[ $said == 's NOT VERIFIED' ]] || fault "the binary lines of a piece: $said $(cat err)"
-wants 3 's NOT VERIFIED' $'clause 2 is not there behind the piece: 1 2 0\nin gone' three piece --holds gone
-wants 3 's NOT VERIFIED' $'clause 2 is not there behind the piece: -1 -3 0\nin turned' three piece --holds turned --lrat l
-empty l
-wants 0 's VERIFIED UNSAT' '' f p --holds next --lrat l
-[[ $("$lrat_check" f l) == 's VERIFIED UNSAT' ]] || fault 'the lines of a piece with a conflict'
-keep l
-wants 1 '' $'wanted clauses: line 1: bad number\nin malformed\nbad number: x' three piece --holds malformed --lrat l
-wants 1 '' $'formula: line 1: bad number\nin malformed\nbad number: x' malformed piece --holds malformed --lrat l
-wants 1 '' $'proof: step 1: malformed\nin malformed' three malformed --holds next --lrat l
-kept 'a piece that is refused' l
-wants 2 '' $'cannot open nothing\nNo such file or directory (os error 2)' three piece --holds nothing --lrat l
-ln -sf next soft.next
-for output in next soft.next; do
-  wants 2 '' "cannot open $output"$'\nthe output is a file that is read' three piece --holds next --lrat "$output"
-done
-kept 'a piece that is not run' l
-# a clause that has an id is there as long as it lives: named by `o`, added, and gone by its id; a tautology is, and what is redundant beside it
-printf '1 2 0\n' > one
-printf 'p cnf 2 0\n' > none
-printf 'o 1 1 2 0\n' > named.frat
-printf 'o 1 1 2 0\na 2 1 3 0\n' > added.frat
-printf 'o 1 1 2 0\na 2 1 3 0\nd 2 1 3 0\n' > gone.frat
-printf '2 1 3 0 0\n' > added.lpr
-printf '2 1 3 0 0\n2 d 2 0\n' > gone.lpr
-printf '2 d 1 0\n' > deleted.lpr
-printf '1 2 -2 0\n-2 0\n' > tautology
-printf '1 -2 2 0\n1 2 0\n' > opposed
-printf -- '-2 0\n' > fresh
-printf '1 -2 2 0\n-2 0\n' > both
-printf '1 3 0\n' > third
-for arguments in 'one named.frat --holds one' 'one added.frat --holds third' 'one added.lpr --lpr --holds third' 'one added.lpr --lpr --holds one' \
-  'none tautology --holds tautology' 'opposed fresh --holds both'; do
-  # shellcheck disable=SC2086
-  wants 0 's VERIFIED PIECE' '' $arguments --lrat l
-  said=$("$lrat_check" "${arguments%% *}" l --holds "${arguments##* }" 2> err) || true
-  [[ $said == 's VERIFIED PIECE' ]] || fault "the lines of $arguments: $said $(cat err)"
-  # shellcheck disable=SC2086
-  wants 0 's VERIFIED PIECE' '' $arguments --core c
-done
-wants 3 's NOT VERIFIED' $'clause 1 is not there behind the piece: 1 3 0\nin third' one gone.frat --holds third
-wants 3 's NOT VERIFIED' $'clause 1 is not there behind the piece: 1 3 0\nin third' one gone.lpr --lpr --holds third
-wants 3 's NOT VERIFIED' $'clause 1 is not there behind the piece: 1 2 0\nin one' one deleted.lpr --lpr --holds one
-# a clause that is redundant without a group counts among those that are
-printf '3 -1 0\n' > new
-said=$("$check" one new --holds new --stats 2> err) || true
-[[ $said == 's VERIFIED PIECE' && $(head -n 4 err) == $'c steps 1\nc lemmas 1\nc rat_lemmas 1\nc hints 0' ]] || fault "a clause without a group: $said $(cat err)"
-wants 0 's VERIFIED PIECE' '' three piece --holds /dev/null --lrat /dev/null
-wants 1 '' $'error writing: No space left on device (os error 28)\nin /dev/full' three piece --holds next --lrat /dev/full
-# the core of a piece: the clauses of the formula that are enough, over which the piece is verified again; nothing where a clause is missing
-wants 0 's VERIFIED PIECE' '' three piece --holds next --core c
-[[ $(cat c) == $'p cnf 3 3\n1 2 0\n1 -2 0\n-1 3 0' ]] || fault "the core of a piece: $(cat c)"
-printf '1 0\n' > less
-wants 0 's VERIFIED PIECE' '' three piece --holds less --core c
-[[ $(cat c) == $'p cnf 2 2\n1 2 0\n1 -2 0' ]] || fault "the core of a piece: $(cat c)"
-wants 0 's VERIFIED PIECE' '' c piece --holds less --core c2
-cmp c c2 || fault 'the core of a core'
-wants 3 's NOT VERIFIED' $'clause 2 is not there behind the piece: 1 2 0\nin gone' three piece --holds gone --core c
-empty c
-wants 0 's VERIFIED UNSAT' '' f p --holds next --core c
-[[ $("$check" c p) == 's VERIFIED UNSAT' ]] || fault 'the core of a piece with a conflict'
-keep c
-wants 1 '' $'wanted clauses: line 1: bad number\nin malformed\nbad number: x' three piece --holds malformed --core c
-wants 1 '' $'proof: step 1: malformed\nin malformed' three malformed --holds next --core c
-wants 2 '' $'cannot open next\nthe output is a file that is read' three piece --holds next --core next
-kept 'a piece that is refused' c
-wants 1 '' $'error writing: No space left on device (os error 28)\nin /dev/full' three piece --holds next --core /dev/full
-said=$("$check" three piece --holds next --stats 2> err) || true
-[[ $said == 's VERIFIED PIECE' && $(head -n 4 err) == $'c steps 2\nc lemmas 2\nc rat_lemmas 0\nc hints 3' ]] || fault "what a piece counts: $said $(cat err)"
 
-# calls that can't be read, and others of the same words
-while IFS=: read -r arguments why; do
-  # shellcheck disable=SC2086
-  wants 2 '' "$why"$'\nusage: drat_check CNF PROOF [--drat] [--frat] [--lpr] [--lrat FILE] [--binary] [--trim FILE] [--core FILE] [--holds FILE] [--receipt FILE] [--stats] [--json] [--quiet] [--verbose]\ndrat_check --help says more' $arguments
-done << 'END'
+case_four() {
+  wants 0 's VERIFIED UNSAT' '' f p --lrat l --core c
+  outputs four f p
+  binary_lines four f p
+  [[ $(clauses core) != *'3 4 0'* ]] || fault 'a clause that is not needed stands in the core'
+  printf 'o 1 1 2 0\no 2 1 -2 0\no 3 -1 2 0\no 4 -1 -2 0\na 6 1 0\nd 1 1 2 0\na 7 0\n' > four.frat
+  outputs 'four as FRAT' f four.frat
+}
+
+case_random() {
+  only_with cadical
+  formula random 150 4.8 1 > random.cnf
+  cadical -q random.cnf random.drat > said 2>&1 || true
+  outputs random random.cnf random.drat
+  binary_lines random random.cnf random.drat
+}
+
+case_pigeons() {
+  for holes in 6 9; do
+    formula pigeons "$holes" > pigeons.cnf
+    for family in extended swaps exchanges; do
+      formula "$family" "$holes" > pigeons.drat
+      outputs "$family $holes" pigeons.cnf pigeons.drat
+      binary_lines "$family $holes" pigeons.cnf pigeons.drat
+    done
+  done
+}
+
+# A clause that is not used, and without which alone a step is redundant.
+case_away() {
+  formula pigeons 4 > pigeons.cnf
+  formula extended 4 > pigeons.drat
+  (sed '1s/.*/p cnf 99 46/' pigeons.cnf && echo '-21 99 0') > away.cnf
+  (echo 'd -21 99 0' && cat pigeons.drat) > away.drat
+  outputs 'a clause that is away' away.cnf away.drat
+  binary_lines 'a clause that is away' away.cnf away.drat
+  [[ $(clauses core) != *'-21 99 0'* ]] || fault 'a clause that is away stands in the core'
+}
+
+case_pairs() {
+  formula pairs 4 > pairs.cnf
+  formula pair_exchanges 4 > pairs.dpr
+  outputs 'pair_exchanges 4' pairs.cnf pairs.dpr
+  binary_lines 'pair_exchanges 4' pairs.cnf pairs.dpr
+}
+
+# What is written has its name once it is whole: a run that is killed leaves what stood there, and beside it what it wrote, which
+# nobody takes away; here nothing is written yet.
+case_killed() {
+  mkfifo hold
+  exec 6<> hold
+  for signal in INT KILL; do
+    keep l c
+    rm -f l.*.new c.*.new
+    # in the background a shell has a program ignore INT
+    env --default-signal=INT "$check" f - --lrat l --core c < hold > out 2> err &
+    run=$!
+    for ((tries = 0; tries < 200; tries++)); do
+      [[ ! -e l.$run.new || ! -e c.$run.new ]] || break
+      sleep 0.05
+    done
+    kill -s "$signal" "$run"
+    wait "$run" 2> said || true
+    kept "$signal" l c
+    left=$(compgen -G '[lc].*.new' | sort) || true
+    [[ $left == c.*.new*l.*.new && ! -s out ]] || fault "$signal: no run was killed"
+    wants 0 's VERIFIED UNSAT' '' f p --lrat l --core c
+    [[ $(compgen -G '[lc].*.new' | sort) == "$left" ]] || fault "after $signal: $(compgen -G '[lc].*.new') in place of $left"
+    [[ $("$lrat_check" f l) == 's VERIFIED UNSAT' ]] || fault "the lines after $signal"
+  done
+  # here the lines are written in part, and here whole, and the clauses in part: a file may not be longer, and a pipe is full. Each
+  # clause makes the next variable true, so one step is the proof, and its lines and the core are long.
+  awk 'BEGIN { n = 20000; print "p cnf", n, n + 1; print "1 0"; for (i = 1; i < n; i++) print -i, i + 1, 0; print -n, 0 }' > chain.cnf
+  printf '0\n' > end
+  keep l c
+  (ulimit -c 0 -f 16 && exec "$check" chain.cnf end --lrat l --core c) > out 2> err || true
+  kept 'cut off' l c
+  [[ ! -s out ]] || fault 'a verdict beside lines that are cut off'
+  rm -f l.*.new c.*.new
+  for signal in INT KILL; do
+    keep l
+    rm -f l.*.new
+    env --default-signal=INT "$check" chain.cnf end --lrat l --core hold > out 2> err &
+    run=$!
+    for ((tries = 0; tries < 200; tries++)); do
+      [[ ! -s l.$run.new || $(tail -n 1 "l.$run.new") != *' 0' ]] || break
+      sleep 0.05
+    done
+    kill -s "$signal" "$run"
+    wait "$run" 2> said || true
+    kept "$signal at the core" l
+    [[ $("$lrat_check" chain.cnf "l.$run.new") == 's VERIFIED UNSAT' && ! -s out ]] || fault "$signal: the run was not killed at the core"
+  done
+  exec 6>&-
+  rm -f l.*.new
+  "$check" chain.cnf end --lrat l > out
+  [[ $("$lrat_check" chain.cnf l) == 's VERIFIED UNSAT' ]] || fault 'the lines of the chain'
+  alone 'the chain' l
+}
+
+# Links lead to the file that is written, which keeps its permissions.
+case_links() {
+  rm -f l real
+  keep real
+  chmod 600 real
+  ln -s real l
+  wants 0 's VERIFIED UNSAT' '' f p --lrat l
+  [[ -L l && $("$lrat_check" f real) == 's VERIFIED UNSAT' && $(stat -c %a real) == 600 ]] || fault 'the lines behind a link'
+  alone 'a link' l real
+  rm l
+}
+
+# Two runs that write one name at once have a file each, and the name is that of the later one.
+case_two_runs() {
+  printf '2 0\n0\n' > other.p
+  "$check" f other.p --lrat other.l > out
+  mkfifo slow
+  "$check" f slow --lrat l > out.slow 2> err.slow &
+  run=$!
+  exec 7> slow
+  for ((tries = 0; tries < 200; tries++)); do
+    [[ -z $(compgen -G 'l.*.new') ]] || break
+    sleep 0.05
+  done
+  sleep 0.5
+  wants 0 's VERIFIED UNSAT' '' f p --lrat l
+  [[ $("$lrat_check" f l) == 's VERIFIED UNSAT' ]] && ! cmp -s l other.l || fault 'the lines of the first of two runs at once'
+  cat other.p >&7
+  exec 7>&-
+  status=0
+  wait "$run" || status=$?
+  [[ $status == 0 && $(cat out.slow) == 's VERIFIED UNSAT' && ! -s err.slow ]] || fault "two runs at once: status $status, $(cat out.slow err.slow)"
+  cmp -s l other.l || fault 'the lines of the second of two runs at once'
+  alone 'two runs at once' l
+}
+
+# A file that is not of this run stays, also one of the name that the run would take first.
+case_strangers() {
+  # numbered ARGUMENT..: such a file is there, and the program has the number in its name
+  numbered() {
+    printf kept > "l.$BASHPID.new"
+    exec "$check" "$@"
+  }
+  for proof in p malformed.p; do
+    printf '1 x 0\n' > malformed.p
+    keep l.new
+    (numbered f "$proof" --lrat l) > out 2> err || true
+    kept "a stranger's file" l.new l.*.new
+    rm l.*.new l.new
+  done
+}
+
+# A beginning of the lines is no proof, and one of the clauses is not what its header says.
+case_beginnings() {
+  "$check" f p --lrat l --core c > out
+  head -n -1 l > begun.lines
+  head -n -1 c > begun.clauses
+  said=$("$lrat_check" f begun.lines) || true
+  [[ $said == 's NOT VERIFIED' ]] || fault "a beginning of the lines: $said"
+  "$check" begun.clauses p > out 2> err || true
+  grep -q '^warning: the header of begun.clauses is ' err || fault "a beginning of the clauses: $(cat out err)"
+}
+
+# Where the proof shows nothing, what stood there is replaced by nothing; where it is refused, it stays.
+case_no_verdict() {
+  printf 'd 1 2 0\n1 0\n' > unfounded
+  printf '' > open
+  keep l c
+  wants 3 's NOT VERIFIED' '' f open --lrat l --core c
+  empty l c
+  keep l c
+  wants 1 '' $'proof: step 1: malformed\nin malformed' f malformed --lrat l --core c
+  kept malformed l c
+  wants 1 '' $'proof: step 2: clause neither follows nor is redundant by its first literal\nin unfounded' \
+    f unfounded --core c --lrat l
+  kept unfounded l c
+  wants 1 '' $'formula: line 1: bad number\nin malformed\nbad number: x' malformed p --lrat l --core c
+  kept 'no formula' l c
+  alone 'no verdict' l c
+}
+
+# An output that is a file that is read, or the other output.
+case_refused_outputs() {
+  for output in f p ./f ./p "$PWD/p" hard soft; do
+    for option in --lrat --core; do
+      wants 2 '' "cannot open $output"$'\n'"the output is a file that is read" f p "$option" "$output"
+    done
+    printf 'kept' > l
+    for arguments in "--lrat l --core $output" "--core l --lrat $output"; do
+      # shellcheck disable=SC2086
+      wants 2 '' "cannot open $output"$'\n'"the output is a file that is read" f p $arguments
+      [[ $(cat l) == kept ]] || fault "the other output is emptied: $arguments"
+    done
+  done
+  printf 'kept' > same
+  ln -f same other
+  for output in same ./same other; do
+    wants 2 '' "cannot open $output"$'\n'"both outputs are one file" f p --lrat same --core "$output"
+    [[ $(cat same) == kept ]] || fault "one file is emptied: $output"
+  done
+  wants 2 '' $'cannot open ./new\nboth outputs are one file' f p --lrat new --core ./new
+  kept 'names in conflict' same
+  cp p same.new
+  wants 0 's VERIFIED UNSAT' '' f same.new --lrat same
+  cmp -s p same.new || fault 'a proof is taken away'
+  wants 0 's VERIFIED UNSAT' '' f p --lrat same --core same.new
+  [[ $("$lrat_check" f same) == 's VERIFIED UNSAT' && $("$check" same.new p) == 's VERIFIED UNSAT' ]] || fault 'the names same and same.new'
+  alone 'outputs that are refused' l same same.new new
+  # a name that is empty, and links that lead to nothing: nothing is read, made or taken away
+  keep .new
+  ln -s nowhere dangling
+  ln -s itself itself
+  for option in --lrat --trim --core; do
+    wants 2 '' $'cannot open \nthe name of an output is empty' f p "$option" ''
+    wants 2 '' $'cannot open \nthe name of an output is empty' f p "$option="
+    for output in dangling itself; do
+      wants 2 '' "cannot open $output"$'\nthe output is a link that leads to nothing' f p "$option" "$output"
+    done
+  done
+  kept 'a name that is empty' .new
+  [[ -L dangling && -L itself && ! -e nowhere && -z $(compgen -G '*.*.new') ]] || fault "links to nothing: $(ls -A)"
+  wants 2 '' $'cannot open /dev/null\nboth outputs are one file' f p --lrat /dev/null --core /dev/null
+  wants 0 's VERIFIED UNSAT' '' f p --lrat /dev/null --core c
+}
+
+# A disk that is full: no line of a verdict, and the file is named.
+case_full_disk() {
+  wants 1 '' $'error writing: No space left on device (os error 28)\nin /dev/full' f p --lrat /dev/full --core c
+  wants 1 '' $'error writing: No space left on device (os error 28)\nin /dev/full' f p --core /dev/full --lrat l
+  wants 1 '' $'error writing: No space left on device (os error 28)\nin /dev/full' f p --trim /dev/full --lrat l
+  alone 'no verdict' l c
+}
+
+# One piece of a proof: its lines are accepted, and do not refute; a clause that is gone, one that is turned round, a conflict.
+case_piece() {
+  printf '1 0\n-1 -3 0\n' > turned
+  wants 0 's VERIFIED PIECE' '' three piece --holds next --lrat l
+  said=$("$lrat_check" three l 2> err) || true
+  [[ $said == 's NOT VERIFIED' && $(tail -n 1 l) == '5 3 -1 0 3 0' ]] || fault "the lines of a piece: $said $(cat err l)"
+  wants 0 's VERIFIED PIECE' '' three piece --holds next --lrat l --binary
+  said=$("$lrat_check" three l 2> err) || true
+  [[ $said == 's NOT VERIFIED' ]] || fault "the binary lines of a piece: $said $(cat err)"
+  wants 3 's NOT VERIFIED' $'clause 2 is not there behind the piece: 1 2 0\nin gone' three piece --holds gone
+  wants 3 's NOT VERIFIED' $'clause 2 is not there behind the piece: -1 -3 0\nin turned' three piece --holds turned --lrat l
+  empty l
+  wants 0 's VERIFIED UNSAT' '' f p --holds next --lrat l
+  [[ $("$lrat_check" f l) == 's VERIFIED UNSAT' ]] || fault 'the lines of a piece with a conflict'
+  keep l
+  wants 1 '' $'wanted clauses: line 1: bad number\nin malformed\nbad number: x' three piece --holds malformed --lrat l
+  wants 1 '' $'formula: line 1: bad number\nin malformed\nbad number: x' malformed piece --holds malformed --lrat l
+  wants 1 '' $'proof: step 1: malformed\nin malformed' three malformed --holds next --lrat l
+  kept 'a piece that is refused' l
+  wants 2 '' $'cannot open nothing\nNo such file or directory (os error 2)' three piece --holds nothing --lrat l
+  ln -sf next soft.next
+  for output in next soft.next; do
+    wants 2 '' "cannot open $output"$'\nthe output is a file that is read' three piece --holds next --lrat "$output"
+  done
+  kept 'a piece that is not run' l
+}
+
+# A clause that has an id is there as long as it lives: named by `o`, added, and gone by its id; a tautology is, and what is redundant beside it.
+case_piece_ids() {
+  printf '1 2 0\n' > one
+  printf 'p cnf 2 0\n' > none
+  printf 'o 1 1 2 0\n' > named.frat
+  printf 'o 1 1 2 0\na 2 1 3 0\n' > added.frat
+  printf 'o 1 1 2 0\na 2 1 3 0\nd 2 1 3 0\n' > gone.frat
+  printf '2 1 3 0 0\n' > added.lpr
+  printf '2 1 3 0 0\n2 d 2 0\n' > gone.lpr
+  printf '2 d 1 0\n' > deleted.lpr
+  printf '1 2 -2 0\n-2 0\n' > tautology
+  printf '1 -2 2 0\n1 2 0\n' > opposed
+  printf -- '-2 0\n' > fresh
+  printf '1 -2 2 0\n-2 0\n' > both
+  printf '1 3 0\n' > third
+  for arguments in 'one named.frat --holds one' 'one added.frat --holds third' 'one added.lpr --lpr --holds third' 'one added.lpr --lpr --holds one' \
+    'none tautology --holds tautology' 'opposed fresh --holds both'; do
+    # shellcheck disable=SC2086
+    wants 0 's VERIFIED PIECE' '' $arguments --lrat l
+    said=$("$lrat_check" "${arguments%% *}" l --holds "${arguments##* }" 2> err) || true
+    [[ $said == 's VERIFIED PIECE' ]] || fault "the lines of $arguments: $said $(cat err)"
+    # shellcheck disable=SC2086
+    wants 0 's VERIFIED PIECE' '' $arguments --core c
+  done
+  wants 3 's NOT VERIFIED' $'clause 1 is not there behind the piece: 1 3 0\nin third' one gone.frat --holds third
+  wants 3 's NOT VERIFIED' $'clause 1 is not there behind the piece: 1 3 0\nin third' one gone.lpr --lpr --holds third
+  wants 3 's NOT VERIFIED' $'clause 1 is not there behind the piece: 1 2 0\nin one' one deleted.lpr --lpr --holds one
+  # a clause that is redundant without a group counts among those that are
+  printf '3 -1 0\n' > new
+  said=$("$check" one new --holds new --stats 2> err) || true
+  [[ $said == 's VERIFIED PIECE' && $(head -n 4 err) == $'c steps 1\nc lemmas 1\nc rat_lemmas 1\nc hints 0' ]] || fault "a clause without a group: $said $(cat err)"
+  wants 0 's VERIFIED PIECE' '' three piece --holds /dev/null --lrat /dev/null
+  wants 1 '' $'error writing: No space left on device (os error 28)\nin /dev/full' three piece --holds next --lrat /dev/full
+}
+
+# The core of a piece: the clauses of the formula that are enough, over which the piece is verified again; nothing where a clause is missing.
+case_piece_core() {
+  wants 0 's VERIFIED PIECE' '' three piece --holds next --core c
+  [[ $(cat c) == $'p cnf 3 3\n1 2 0\n1 -2 0\n-1 3 0' ]] || fault "the core of a piece: $(cat c)"
+  printf '1 0\n' > less
+  wants 0 's VERIFIED PIECE' '' three piece --holds less --core c
+  [[ $(cat c) == $'p cnf 2 2\n1 2 0\n1 -2 0' ]] || fault "the core of a piece: $(cat c)"
+  wants 0 's VERIFIED PIECE' '' c piece --holds less --core c2
+  cmp c c2 || fault 'the core of a core'
+  wants 3 's NOT VERIFIED' $'clause 2 is not there behind the piece: 1 2 0\nin gone' three piece --holds gone --core c
+  empty c
+  wants 0 's VERIFIED UNSAT' '' f p --holds next --core c
+  [[ $("$check" c p) == 's VERIFIED UNSAT' ]] || fault 'the core of a piece with a conflict'
+  keep c
+  wants 1 '' $'wanted clauses: line 1: bad number\nin malformed\nbad number: x' three piece --holds malformed --core c
+  wants 1 '' $'proof: step 1: malformed\nin malformed' three malformed --holds next --core c
+  wants 2 '' $'cannot open next\nthe output is a file that is read' three piece --holds next --core next
+  kept 'a piece that is refused' c
+  wants 1 '' $'error writing: No space left on device (os error 28)\nin /dev/full' three piece --holds next --core /dev/full
+  said=$("$check" three piece --holds next --stats 2> err) || true
+  [[ $said == 's VERIFIED PIECE' && $(head -n 4 err) == $'c steps 2\nc lemmas 2\nc rat_lemmas 0\nc hints 3' ]] || fault "what a piece counts: $said $(cat err)"
+}
+
+# Calls that can't be read, and others of the same words.
+case_words() {
+  while IFS=: read -r arguments why; do
+    # shellcheck disable=SC2086
+    wants 2 '' "$why"$'\nusage: drat_check CNF PROOF [--drat] [--frat] [--lpr] [--lrat FILE] [--binary] [--trim FILE] [--core FILE] [--holds FILE] [--receipt FILE] [--stats] [--json] [--quiet] [--verbose]\ndrat_check --help says more' $arguments
+  done << 'END'
 :no file is named for CNF
 f:no file is named for PROOF
 f p --lrat:--lrat needs a value
@@ -439,14 +484,16 @@ f p --example:--example takes no other argument
 --example --drat:--example takes no other argument
 -- --drat:no file is named for PROOF
 END
-for arguments in '--lrat l --core c f p' '--lrat=l f --core=c p' 'f --drat p --core c --lrat l' '--core c --lrat l -- f p'; do
-  rm -f l c
-  # shellcheck disable=SC2086
-  wants 0 's VERIFIED UNSAT' '' $arguments
-  [[ $("$lrat_check" f l) == 's VERIFIED UNSAT' ]] || fault "the lines of $arguments"
-  grep -q '^p cnf' c || fault "the core of $arguments"
-done
-rm -f -- --core
-wants 0 's VERIFIED UNSAT' '' f p --lrat --core
-[[ $("$lrat_check" -- f --core) == 's VERIFIED UNSAT' ]] || fault 'a value that begins as an option'
-exit "$wrong"
+  for arguments in '--lrat l --core c f p' '--lrat=l f --core=c p' 'f --drat p --core c --lrat l' '--core c --lrat l -- f p'; do
+    rm -f l c
+    # shellcheck disable=SC2086
+    wants 0 's VERIFIED UNSAT' '' $arguments
+    [[ $("$lrat_check" f l) == 's VERIFIED UNSAT' ]] || fault "the lines of $arguments"
+    grep -q '^p cnf' c || fault "the core of $arguments"
+  done
+  rm -f -- --core
+  wants 0 's VERIFIED UNSAT' '' f p --lrat --core
+  [[ $("$lrat_check" -- f --core) == 's VERIFIED UNSAT' ]] || fault 'a value that begins as an option'
+}
+
+try_cases

@@ -40,7 +40,8 @@ formula random 150 4.8 1 > "$work/random.cnf"
 formula multiplier 5 > "$work/multiplier.cnf"
 names=(pigeons random multiplier)
 
-if has cadical; then
+case_cadical() {
+  only_with cadical
   for name in "${names[@]}"; do
     cnf=$work/$name.cnf
     solved "cadical $name" cadical -q --no-binary "$cnf" "$work/text"
@@ -49,14 +50,18 @@ if has cadical; then
     verified "cadical $name, binary" "$cnf" "$work/binary"
     says_verified "cadical $name, by a pipe" "$cnf" - < <(cat "$work/binary")
   done
-fi
-if has picosat; then
+}
+
+case_picosat() {
+  only_with picosat
   for name in pigeons random; do
     solved "picosat $name" picosat -R "$work/proof" "$work/$name.cnf"
     verified "picosat $name" "$work/$name.cnf" "$work/proof"
   done
-fi
-if has cryptominisat5; then
+}
+
+case_cryptominisat() {
+  only_with cryptominisat5
   for name in pigeons random; do
     solved "cryptominisat $name" cryptominisat5 --verb 0 "$work/$name.cnf" "$work/frat"
     awk '$1 == "a" || $1 == "d" {
@@ -66,26 +71,32 @@ if has cryptominisat5; then
     }' "$work/frat" > "$work/proof"
     verified "cryptominisat $name" "$work/$name.cnf" "$work/proof"
   done
-fi
-for holes in 6 9; do
-  formula pigeons "$holes" > "$work/rat.cnf"
-  for family in extended swaps; do
-    formula "$family" "$holes" > "$work/proof"
-    verified "$family $holes" "$work/rat.cnf" "$work/proof"
+}
+
+case_rat() {
+  for holes in 6 9; do
+    formula pigeons "$holes" > "$work/rat.cnf"
+    for family in extended swaps; do
+      formula "$family" "$holes" > "$work/proof"
+      verified "$family $holes" "$work/rat.cnf" "$work/proof"
+    done
   done
-done
-formula pigeons 9 > "$work/pr.cnf"
-formula exchanges 9 > "$work/proof"
-verified "exchanges 9" "$work/pr.cnf" "$work/proof"
-formula pairs 4 > "$work/pr.cnf"
-formula pair_exchanges 4 > "$work/proof"
-verified "pair_exchanges 4" "$work/pr.cnf" "$work/proof"
-if has cadical; then
+  formula pigeons 9 > "$work/pr.cnf"
+  formula exchanges 9 > "$work/proof"
+  verified "exchanges 9" "$work/pr.cnf" "$work/proof"
+  formula pairs 4 > "$work/pr.cnf"
+  formula pair_exchanges 4 > "$work/proof"
+  verified "pair_exchanges 4" "$work/pr.cnf" "$work/proof"
+}
+
+case_turns() {
+  only_with cadical
   formula board 8 > "$work/board.cnf"
   formula turned_board 8 > "$work/turned.cnf"
   solved "cadical on a board" cadical -q --no-binary "$work/turned.cnf" "$work/rest"
   formula turns 8 > "$work/proof"
   cat "$work/rest" >> "$work/proof"
   verified "turns 8" "$work/board.cnf" "$work/proof"
-fi
-exit "$wrong"
+}
+
+try_cases

@@ -9,6 +9,7 @@
 set -euo pipefail
 . "$(dirname "$0")/lib.sh"
 check=$(built drat_check)
+count=${1:-400} seed=${2:-1}
 
 # says STATUS LINE NAME CNF PROOF [OPTION]: what the program answers
 says() {
@@ -56,23 +57,30 @@ of_lines() {
 
 formula pigeons 6 > "$work/pigeons.cnf"
 formula random 150 4.8 1 > "$work/random.cnf"
-for family in extended swaps; do
-  formula "$family" 6 > "$work/drat"
-  of_lines "$family" "$work/pigeons.cnf" "$work/drat"
-done
-if command -v cadical > "$work/where"; then
+
+case_lines() {
+  for family in extended swaps; do
+    formula "$family" 6 > "$work/drat"
+    of_lines "$family" "$work/pigeons.cnf" "$work/drat"
+  done
+}
+
+case_cadical() {
+  only_with cadical
   cadical -q "$work/random.cnf" "$work/drat" > "$work/said" || true
   of_lines 'cadical random' "$work/random.cnf" "$work/drat"
-else
-  echo 'cadical is not installed: not tried'
-fi
-if command -v cryptominisat5 > "$work/where"; then
+}
+
+case_cryptominisat() {
+  only_with cryptominisat5
   for name in pigeons random; do
     cryptominisat5 --verb 0 "$work/$name.cnf" "$work/frat" > "$work/said" || true
     says 0 's VERIFIED UNSAT' "cryptominisat $name" "$work/$name.cnf" "$work/frat"
   done
-else
-  echo 'cryptominisat5 is not installed: not tried'
-fi
-python3 -B "$top/tests/drat/frat.py" fuzz "$check" "${1:-400}" "${2:-1}" || wrong=1
-exit "$wrong"
+}
+
+case_random() {
+  python3 -B "$top/tests/drat/frat.py" fuzz "$check" "$count" "$seed" || wrong=1
+}
+
+try_cases

@@ -33,25 +33,34 @@ refused() {
   wants 1 '' "$2"$'\n'"in $1" "${@:3}"
 }
 
-wants 0 's VERIFIED UNSAT' '' drat_check cnf drat
-wants 0 's VERIFIED UNSAT' '' drat_check cnf drat --lrat made.lrat --core core
-wants 0 's VERIFIED UNSAT' '' lrat_check cnf made.lrat
-wants 0 's VERIFIED UNSAT' '' drat_check core drat
-refused damaged.drat "proof: step $step: clause neither follows nor is redundant by its first literal" drat_check cnf damaged.drat
-refused drat "proof: step $last: clause neither follows nor is redundant by its first literal" drat_check sat.cnf drat
+case_drat_check() {
+  wants 0 's VERIFIED UNSAT' '' drat_check cnf drat
+  wants 0 's VERIFIED UNSAT' '' drat_check cnf drat --lrat made.lrat --core core
+  wants 0 's VERIFIED UNSAT' '' lrat_check cnf made.lrat
+  wants 0 's VERIFIED UNSAT' '' drat_check core drat
+  refused damaged.drat "proof: step $step: clause neither follows nor is redundant by its first literal" drat_check cnf damaged.drat
+  refused drat "proof: step $last: clause neither follows nor is redundant by its first literal" drat_check sat.cnf drat
+}
 
-wants 0 's VERIFIED UNSAT' '' lrat_check cnf lrat
-refused damaged.lrat "proof: line $line: hints end without a conflict" lrat_check cnf damaged.lrat
-wants 0 's VERIFIED UNSAT' '' hint_check cnf lrat
-refused damaged.lrat "line $line: hints end without a conflict" hint_check cnf damaged.lrat
+case_hints() {
+  wants 0 's VERIFIED UNSAT' '' lrat_check cnf lrat
+  refused damaged.lrat "proof: line $line: hints end without a conflict" lrat_check cnf damaged.lrat
+  wants 0 's VERIFIED UNSAT' '' hint_check cnf lrat
+  refused damaged.lrat "line $line: hints end without a conflict" hint_check cnf damaged.lrat
+}
 
 # A line is a step there, and whether it follows is judged by `varisat_check` alone.
-wants 0 '' '' lrat_to_proof cnf lrat proof
-wants 0 's UNSATISFIABLE' '' varisat_check cnf proof
-wants 0 '' '' lrat_to_proof cnf damaged.lrat damaged.proof
-refused damaged.proof "step $line: Checking proof failed: AT check failed" varisat_check cnf damaged.proof
-refused unnamed.lrat "proof: line $line: no clause has the id of a hint" lrat_to_proof cnf unnamed.lrat refused.proof
+case_lrat_to_proof() {
+  wants 0 '' '' lrat_to_proof cnf lrat proof
+  wants 0 's UNSATISFIABLE' '' varisat_check cnf proof
+  wants 0 '' '' lrat_to_proof cnf damaged.lrat damaged.proof
+  refused damaged.proof "step $line: Checking proof failed: AT check failed" varisat_check cnf damaged.proof
+  refused unnamed.lrat "proof: line $line: no clause has the id of a hint" lrat_to_proof cnf unnamed.lrat refused.proof
+}
 
-wants 0 's VERIFIED SAT' '' model_check sat.cnf answer
-wants 3 's NOT VERIFIED' "formula: line $((clause + 1)): clause $clause has no literal of the answer" model_check sat.cnf damaged.answer
-exit "$wrong"
+case_model_check() {
+  wants 0 's VERIFIED SAT' '' model_check sat.cnf answer
+  wants 3 's NOT VERIFIED' "formula: line $((clause + 1)): clause $clause has no literal of the answer" model_check sat.cnf damaged.answer
+}
+
+try_cases

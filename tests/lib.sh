@@ -5,10 +5,114 @@
 #   . "$(dirname "$0")/lib.sh"
 #
 # and has then the repository's folder in `top`, a folder of its own in `work`, and `wrong`, which is 0 until something is found.
+#
+# Functions `case_NAME` are its cases, and its last line is then `try_cases`. Each case tests something alone: it begins with the variables
+# that stand before the cases, in a shell of its own, and with the files that were in `work` then.
+#
+#   tests/SCRIPT.sh --cases                     the names of its cases
+#   tests/SCRIPT.sh --case NAME [--case NAME]   these alone
+mapfile -t case_names < <(sed -n 's/^case_\([a-z0-9_]*\)() {$/\1/p' "$0")
+cases_asked=() operands=()
+while (($# > 0)); do
+  case $1 in
+    --cases)
+      ((${#case_names[@]} == 0)) || printf '%s\n' "${case_names[@]}"
+      exit 0
+      ;;
+    --case)
+      if [[ -z ${2:-} || " ${case_names[*]} " != *" $2 "* ]]; then
+        echo "$0 has no case '${2:-}'; its cases: ${case_names[*]}" >&2
+        exit 2
+      fi
+      cases_asked+=("$2")
+      shift 2
+      ;;
+    *)
+      operands+=("$1")
+      shift
+      ;;
+  esac
+done
+set -- "${operands[@]}"
+
 top=$(cd "$(dirname "${BASH_SOURCE[0]}")/.." && pwd)
 work=$(mktemp -d)
-trap 'rm -rf "$work"' EXIT
+trap '[[ $BASHPID != "$$" ]] || leave "$?"' EXIT
 wrong=0
+cases_ended=0
+
+# leave STATUS: at the end of a script, whose cases were tried if it ends well
+leave() {
+  rm -rf "$work" "$work.begun"
+  if [[ $1 == 0 && $cases_ended == 0 && ${#case_names[@]} -gt 0 ]]; then
+    echo 'WRONG the cases were not tried: try_cases is not the last line'
+    exit 1
+  fi
+}
+
+# try_cases: runs all cases, or those that were asked for, and says of each how it ended. It fails where something is wrong in one of them,
+# or was before, and where a command of a case fails, which ends that case.
+try_cases() {
+  local case_now case_status cases_wrong=()
+  cp -a "$work" "$work.begun"
+  ((wrong == 0)) || cases_wrong+=('what is before the cases')
+  ((${#cases_asked[@]} > 0)) || cases_asked=("${case_names[@]}")
+  for case_now in "${cases_asked[@]}"; do
+    find "$work" -mindepth 1 -delete
+    cp -a "$work.begun/." "$work"
+    # (in a condition, commands that fail would be passed over)
+    set +e
+    (try_case)
+    case_status=$?
+    set -e
+    ((case_status == 0)) || cases_wrong+=("$case_now")
+  done
+  cases_ended=1
+  if ((${#cases_wrong[@]} > 0)); then
+    echo "WRONG cases: ${cases_wrong[*]}"
+    return 1
+  fi
+}
+
+# try_case: in a shell of its own. What it starts in the background may be ended while it still has the traps.
+try_case() {
+  set -e
+  case_shell=$BASHPID case_how=begun wrong=0
+  trap '[[ $BASHPID != "$case_shell" ]] || end_case "$?" "$BASH_COMMAND"' EXIT
+  cd "$PWD"
+  "case_$case_now"
+  case_how=ended
+}
+
+# end_case STATUS COMMAND: says how a case ended, which may be by this command
+end_case() {
+  if [[ $case_how == begun ]]; then
+    echo "WRONG $case_now: it ended with status $1, by: $2"
+    exit 1
+  elif ((wrong != 0)); then
+    echo "WRONG $case_now"
+    exit 1
+  elif [[ $case_how == untried ]]; then
+    echo "-     $case_now: not tried"
+  else
+    echo "ok    $case_now"
+  fi
+}
+
+# untried WHY: the case ends here, since something is missing
+untried() {
+  echo "$1: not tried"
+  case_how=untried cases_ended=1
+  exit 0
+}
+
+# only_with PROGRAM..: the case ends here if one of them is not installed
+only_with() {
+  local name
+  for name in "$@"; do
+    command -v "$name" > "$work/where" || untried "$name is not installed"
+  done
+}
 
 # Python is started thousands of times, and most of a start is to look for the interpreter, where `python3` is a script that does so, and to
 # load what lies in site-packages, which nothing here needs that is not run by -m: this `python3` does neither.

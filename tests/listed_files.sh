@@ -14,37 +14,34 @@ if ((!$#)); then
   done
 fi
 
-# A copy of the sources, in which each program has its rows as tests.
-mkdir -p "$work/tree/crates"
-cp "$top/HANDLES" "$top/crates.txt" "$work/tree"
+# A copy of the sources, and a program that has each of these programs as a module, with its rows as tests: so what they are built over is
+# read once.
+mkdir -p "$work/tree/crates/listed_runs/src"
+cp "$top/HANDLES" "$work/tree"
 for crate in "$top"/crates/*; do
   mkdir "$work/tree/crates/$(basename "$crate")"
   cp -r "$crate/src" "$work/tree/crates/$(basename "$crate")"
 done
+runs=$work/tree/crates/listed_runs/src
 for name in "${programs[@]}"; do
-  source=$work/tree/crates/${name}_main/src
-  cp "$top/tests/listed_files/$name.runs" "$source/tests.rt"
-  sed -i '0,/^mod /s//#[cfg(test)]\nmod tests;\n&/' "$source/main.rt"
-  sed -i "s/^${name}_main:/& test_files/" "$work/tree/crates.txt"
+  cp -r "$top/crates/${name}_main/src" "$runs/$name"
+  cp "$top/tests/listed_files/$name.runs" "$runs/$name/tests.rt"
+  sed -i -E "s/crate::/crate::$name::/g; s/crate::$name::(proofs|specs)::/crate::\1::/g" "$runs/$name"/*.rt
+  sed '0,/^mod /s//#[cfg(test)]\nmod tests;\n&/' "$runs/$name/main.rt" > "$runs/$name.rt"
+  rm "$runs/$name/main.rt"
+  echo "mod $name;" >> "$runs/main.rt"
 done
+printf '\nfn main() {}\n' >> "$runs/main.rt"
+{
+  cat "$top/crates.txt"
+  below=$(for name in "${programs[@]}"; do sed -n "s/^${name}_main://p" "$top/crates.txt"; done | tr ' ' '\n' | sort -u | paste -s -d ' ')
+  echo "listed_runs: test_files$below"
+} > "$work/tree/crates.txt"
 
-# tried PROGRAM: whether its runs end as they must
-tried() {
-  cd "$work/tree/crates/$1_main"
-  rt try --test > "$work/$1.said" 2>&1
-}
-export -f tried
-export work
-
-for name in "${programs[@]}"; do
-  printf '%s\n' "$name"
-done | xargs -P 3 -I NAME bash -c 'tried NAME && touch "$work/NAME.passed" || true'
-for name in "${programs[@]}"; do
-  if [[ -e $work/$name.passed ]]; then
-    echo "ok    $name"
-  else
-    fault "$name: its runs on listed files"
-    cat "$work/$name.said"
-  fi
-done
+if (cd "$work/tree/crates/listed_runs" && rt try --test) > "$work/said" 2>&1; then
+  printf 'ok    %s\n' "${programs[@]}"
+else
+  fault "runs on listed files"
+  cat "$work/said"
+fi
 exit "$wrong"

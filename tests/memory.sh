@@ -32,29 +32,39 @@ sys.exit(status)
 # 2^28 is the greatest number of a variable
 units='1 0\n-1 0\n'
 pairs='1 268435456 0\n1 -268435456 0\n-1 268435456 0\n-1 -268435456 0\n'
-for program in lrat_check hint_check; do
-  # a clause with it is added, and one with its negation is deleted again
-  takes_little 0 's VERIFIED UNSAT' '' $program "$units" '3 268435456 0 1 2 0\n4 0 1 2 0'
-  takes_little 3 's NOT VERIFIED' '' $program "$units" '3 268435456 -268435456 0 1 2 0\n'
-  takes_little 0 's VERIFIED UNSAT' '' $program "$units" '3 -268435456 0 1 2 0\n3 d 3 0\n4 0 1 2 0\n'
-  # the formula has it, and it is true, or false, while hints are followed
-  takes_little 0 's VERIFIED UNSAT' '' $program "$pairs" '5 268435456 0 1 3 0\n6 0 5 2 4 0\n'
-  takes_little 0 's VERIFIED UNSAT' '' $program "$pairs" '5 -268435456 0 2 4 0\n6 0 5 1 3 0\n'
-done
-# hints that lead to no conflict
-takes_little 1 '' 'line 2: clause of a hint is not unit\nin p' hint_check "$pairs" '5 268435456 0 1 3 0\n6 0 1 2 0\n'
-takes_little 1 '' 'proof: line 2: clause of a hint is not unit\nin p' lrat_check "$pairs" '5 268435456 0 1 3 0\n6 0 1 2 0\n'
-# clauses that are redundant by it, where no clause has its negation, or not any more, and where one has it
-takes_little 3 's NOT VERIFIED' '' lrat_check "$units" '3 -268435456 0 0\n'
-takes_little 3 's NOT VERIFIED' '' lrat_check '268435456 0\n' '1 d 1 0\n3 -268435456 0 0\n'
-takes_little 1 '' 'proof: line 1: hints end without a conflict\nin p' lrat_check '268435456 1 0\n' '3 -268435456 0 0\n'
-takes_little 1 '' 'proof: line 2: hints end without a conflict\nin p' lrat_check '268435456 1 0\n268435456 2 0\n' \
-  '1 d 1 0\n3 -268435456 0 0\n'
-# DRAT: the formula has it; a clause that is added, needed or not; a deletion
 four='1 2 0\n1 -2 0\n-1 2 0\n-1 -2 0\n'
-takes_little 0 's VERIFIED UNSAT' '' drat_check "$pairs" '268435456 0\n'
-takes_little 0 's VERIFIED UNSAT' '' drat_check "$pairs" '-268435456 0\n'
-takes_little 0 's VERIFIED UNSAT' '' drat_check "$four" '268435456 2 0\n-268435456 1 0\n1 2 0\n1 0\n'
-takes_little 0 's VERIFIED UNSAT' '' drat_check "$four" 'd 268435456 -3 0\n1 0\n'
-takes_little 3 's NOT VERIFIED' '' drat_check '1 2 0\n' '268435456 0\n-268435456 3 0\n'
-exit $wrong
+
+case_hints() {
+  for program in lrat_check hint_check; do
+    # a clause with it is added, and one with its negation is deleted again
+    takes_little 0 's VERIFIED UNSAT' '' $program "$units" '3 268435456 0 1 2 0\n4 0 1 2 0'
+    takes_little 3 's NOT VERIFIED' '' $program "$units" '3 268435456 -268435456 0 1 2 0\n'
+    takes_little 0 's VERIFIED UNSAT' '' $program "$units" '3 -268435456 0 1 2 0\n3 d 3 0\n4 0 1 2 0\n'
+    # the formula has it, and it is true, or false, while hints are followed
+    takes_little 0 's VERIFIED UNSAT' '' $program "$pairs" '5 268435456 0 1 3 0\n6 0 5 2 4 0\n'
+    takes_little 0 's VERIFIED UNSAT' '' $program "$pairs" '5 -268435456 0 2 4 0\n6 0 5 1 3 0\n'
+  done
+  # hints that lead to no conflict
+  takes_little 1 '' 'line 2: clause of a hint is not unit\nin p' hint_check "$pairs" '5 268435456 0 1 3 0\n6 0 1 2 0\n'
+  takes_little 1 '' 'proof: line 2: clause of a hint is not unit\nin p' lrat_check "$pairs" '5 268435456 0 1 3 0\n6 0 1 2 0\n'
+}
+
+# Clauses that are redundant by it, where no clause has its negation, or not any more, and where one has it.
+case_redundant() {
+  takes_little 3 's NOT VERIFIED' '' lrat_check "$units" '3 -268435456 0 0\n'
+  takes_little 3 's NOT VERIFIED' '' lrat_check '268435456 0\n' '1 d 1 0\n3 -268435456 0 0\n'
+  takes_little 1 '' 'proof: line 1: hints end without a conflict\nin p' lrat_check '268435456 1 0\n' '3 -268435456 0 0\n'
+  takes_little 1 '' 'proof: line 2: hints end without a conflict\nin p' lrat_check '268435456 1 0\n268435456 2 0\n' \
+    '1 d 1 0\n3 -268435456 0 0\n'
+}
+
+# DRAT: the formula has it; a clause that is added, needed or not; a deletion.
+case_drat() {
+  takes_little 0 's VERIFIED UNSAT' '' drat_check "$pairs" '268435456 0\n'
+  takes_little 0 's VERIFIED UNSAT' '' drat_check "$pairs" '-268435456 0\n'
+  takes_little 0 's VERIFIED UNSAT' '' drat_check "$four" '268435456 2 0\n-268435456 1 0\n1 2 0\n1 0\n'
+  takes_little 0 's VERIFIED UNSAT' '' drat_check "$four" 'd 268435456 -3 0\n1 0\n'
+  takes_little 3 's NOT VERIFIED' '' drat_check '1 2 0\n' '268435456 0\n-268435456 3 0\n'
+}
+
+try_cases

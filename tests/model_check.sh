@@ -9,6 +9,7 @@
 set -euo pipefail
 . "$(dirname "$0")/lib.sh"
 check=$(built model_check)
+count=${1:-200} seed=${2:-1}
 
 answers() {
   python3 -B "$top/tests/model_check/answers.py" "$check" "$@" || wrong=1
@@ -41,8 +42,10 @@ for seed in 1 2 3; do
 done
 python3 -B "$top/tests/drat/formulas.py" pigeons 5 > "$work/pigeons.cnf"
 
-for solver in cadical picosat; do
-  has "$solver" || continue
+# solves SOLVER: formulas that can be satisfied, and one that can't
+solves() {
+  local solver=$1 seed cnf
+  only_with "$solver"
   for seed in 1 2 3; do
     cnf=$work/satisfiable$seed.cnf
     if ended 10 "$solver, formula $seed" "$solver" "$cnf"; then
@@ -54,6 +57,18 @@ for solver in cadical picosat; do
   if ended 20 "$solver, pigeons" "$solver" "$work/pigeons.cnf"; then
     said "$solver, pigeons" '' 1 "$work/pigeons.cnf" "$work/answer"
   fi
-done
-answers random "${1:-200}" "${2:-1}"
-exit "$wrong"
+}
+
+case_cadical() {
+  solves cadical
+}
+
+case_picosat() {
+  solves picosat
+}
+
+case_random() {
+  answers random "$count" "$seed"
+}
+
+try_cases

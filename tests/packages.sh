@@ -39,6 +39,7 @@ if [[ ! -f $dist/PROVED ]]; then
     cc -O1 -fPIC -S -DNAME="\"$name\"" -o "$work/text/$name.S" "$own/stand_in.c"
   done
 fi
+version=$(sed -n 's/^const VERSION: &str = "\([^ "]*\).*/\1/p' "$top/crates/command/src/status.rt")
 mapfile -t all < <(printf '%s\n' "${names[@]}" checked checked_all verified | LC_ALL=C sort)
 
 # checkout FOLDER: a copy of this checkout without crates/, and with dist/
@@ -78,52 +79,58 @@ verdicts() {
 right=$'s UNSATISFIABLE\n0\ns VERIFIED UNSAT\n0\n1\ns VERIFIED UNSAT\n20\n1'
 right+=$'\n1 formula: 1 s VERIFIED UNSAT, 0 s VERIFIED SAT, 0 no answer, 0 rejected\n0'
 
-# Installed and uninstalled; and without dist/
 place="$work/a checkout"
 checkout "$place"
-well 'install.sh --dist' "$place/install.sh" --dist "$work/a prefix"
-same 'the programs' "$(printf '%s\n' "${all[@]}")" "$(cd "$work/a prefix/bin" && LC_ALL=C ls)"
-same 'their pages' "$(printf '%s.1\n' "${all[@]}")" "$(cd "$work/a prefix/share/man/man1" && LC_ALL=C ls)"
-same 'what was proved' "$(cat "$work/text/PROVED")" "$(cat "$work/a prefix/share/doc/cefindrato/PROVED")"
-same 'verdicts' "$right" "$(verdicts "$work/a prefix/bin")"
-well 'install.sh --uninstall' "$place/install.sh" --uninstall "$work/a prefix"
-same 'what is left' '' "$(find "$work/a prefix" 2> "$work/said" || true)"
-rm -r "$place/dist"
-status=0
-said=$("$place/install.sh" --dist "$work/a prefix" 2>&1) || status=$?
-same 'without dist/' "1 no $place/dist/PROVED: tools/dist.sh makes dist/" "$status $said"
-cp -R "$work/text" "$place/dist"
 
-# action WHAT STATUS LINE INPUT=VALUE..: the steps of the action with these inputs, in a folder that has the formulas
-action() {
-  local status=0 said
-  rm -rf "$work/runner"
-  mkdir "$work/runner"
-  said=$(cd "$work" && PATH="$work/bin:$PATH" python3 -B "$own/action.py" "$place" "$work/runner" "${@:4}" 2> "$work/faults") || status=$?
-  same "the action $1" "$2 $3" "$status $(grep -v '^cc \|^make\|^no module yaml' <<< "$said" || true)"
+# Installed and uninstalled; and without dist/.
+case_install() {
+  well 'install.sh --dist' "$place/install.sh" --dist "$work/a prefix"
+  same 'the programs' "$(printf '%s\n' "${all[@]}")" "$(cd "$work/a prefix/bin" && LC_ALL=C ls)"
+  same 'their pages' "$(printf '%s.1\n' "${all[@]}")" "$(cd "$work/a prefix/share/man/man1" && LC_ALL=C ls)"
+  same 'what was proved' "$(cat "$work/text/PROVED")" "$(cat "$work/a prefix/share/doc/cefindrato/PROVED")"
+  same 'verdicts' "$right" "$(verdicts "$work/a prefix/bin")"
+  well 'install.sh --uninstall' "$place/install.sh" --uninstall "$work/a prefix"
+  same 'what is left' '' "$(find "$work/a prefix" 2> "$work/said" || true)"
+  rm -r "$place/dist"
+  status=0
+  said=$("$place/install.sh" --dist "$work/a prefix" 2>&1) || status=$?
+  same 'without dist/' "1 no $place/dist/PROVED: tools/dist.sh makes dist/" "$status $said"
+  cp -R "$work/text" "$place/dist"
 }
-# (this `sudo` records how it was called, and installs nothing)
-printf '#!/bin/sh\nprintf "%%s\\n" "$*" >> "%s/asked"\n' "$work" > "$work/bin/sudo"
-chmod +x "$work/bin/sudo"
-action 'without a formula' 0 ''
-same 'what it installs' "$(printf '%s\n' "${all[@]}")" "$(cd "$work/runner/temp/cefindrato" && LC_ALL=C ls)"
-same 'what it adds to the path' "$work/runner/temp/cefindrato" "$(cat "$work/runner/path")"
-same 'verdicts of the action' "$right" "$(verdicts "$work/runner/temp/cefindrato")"
-same 'packages without the input' '' "$(cat "$work/asked" 2> "$work/said" || true)"
-action 'with a formula' 0 's VERIFIED UNSAT' formula=four.cnf 'solver=solver --option'
-action 'with the other answer' 1 's VERIFIED UNSAT' formula=four.cnf 'solver=solver --option' want=sat
-grep -qx 'the other answer is verified: --want sat' "$work/faults" || {
-  cat "$work/faults"
-  wrong=1
-}
-action 'with a wrong answer' 1 '' formula=one.cnf 'solver=solver --option'
-action 'with a command in an input' 2 '' formula=four.cnf "solver=none; touch $work/done"
-same 'the command' '' "$(find "$work" -name 'done*')"
-action 'with packages' 0 '' 'packages=cadical picosat'
-same 'the packages' $'apt-get update -qq\napt-get install -y -qq --no-install-recommends cadical picosat' "$(cat "$work/asked")"
 
-# The Debian source package and what is built from it, and the verdict of lintian on both
-if has dpkg-buildpackage && has dh; then
+case_action() {
+  # action WHAT STATUS LINE INPUT=VALUE..: the steps of the action with these inputs, in a folder that has the formulas
+  action() {
+    local status=0 said
+    rm -rf "$work/runner"
+    mkdir "$work/runner"
+    said=$(cd "$work" && PATH="$work/bin:$PATH" python3 -B "$own/action.py" "$place" "$work/runner" "${@:4}" 2> "$work/faults") || status=$?
+    same "the action $1" "$2 $3" "$status $(grep -v '^cc \|^make\|^no module yaml' <<< "$said" || true)"
+  }
+  # (this `sudo` records how it was called, and installs nothing)
+  printf '#!/bin/sh\nprintf "%%s\\n" "$*" >> "%s/asked"\n' "$work" > "$work/bin/sudo"
+  chmod +x "$work/bin/sudo"
+  action 'without a formula' 0 ''
+  same 'what it installs' "$(printf '%s\n' "${all[@]}")" "$(cd "$work/runner/temp/cefindrato" && LC_ALL=C ls)"
+  same 'what it adds to the path' "$work/runner/temp/cefindrato" "$(cat "$work/runner/path")"
+  same 'verdicts of the action' "$right" "$(verdicts "$work/runner/temp/cefindrato")"
+  same 'packages without the input' '' "$(cat "$work/asked" 2> "$work/said" || true)"
+  action 'with a formula' 0 's VERIFIED UNSAT' formula=four.cnf 'solver=solver --option'
+  action 'with the other answer' 1 's VERIFIED UNSAT' formula=four.cnf 'solver=solver --option' want=sat
+  grep -qx 'the other answer is verified: --want sat' "$work/faults" || {
+    cat "$work/faults"
+    wrong=1
+  }
+  action 'with a wrong answer' 1 '' formula=one.cnf 'solver=solver --option'
+  action 'with a command in an input' 2 '' formula=four.cnf "solver=none; touch $work/done"
+  same 'the command' '' "$(find "$work" -name 'done*')"
+  action 'with packages' 0 '' 'packages=cadical picosat'
+  same 'the packages' $'apt-get update -qq\napt-get install -y -qq --no-install-recommends cadical picosat' "$(cat "$work/asked")"
+}
+
+# The Debian source package and what is built from it, and the verdict of lintian on both.
+case_debian() {
+  only_with dpkg-buildpackage dh
   checkout "$work/debian/cefindrato"
   git init -q "$work/debian/cefindrato"
   before=$(cd "$work/debian/cefindrato" && find . -type f | sort)
@@ -141,36 +148,40 @@ if has dpkg-buildpackage && has dh; then
   fi
   well 'debian/rules clean' env -C "$work/debian/cefindrato" debian/rules clean
   same 'what the build leaves' '' "$(cd "$work/debian/cefindrato" && find . -type f | sort | diff <(echo "$before") - || true)"
-fi
+}
 
-# The script of conda, and the commands that Nix would run
-well "conda's build.sh" env -C "$place" "PREFIX=$work/conda" bash -e packaging/conda/build.sh
-same 'verdicts of the conda package' "$right" "$(verdicts "$work/conda/bin")"
-if has nix-instantiate; then
-  export NIX_STORE_DIR=$work/nix/store NIX_STATE_DIR=$work/nix/state NIX_LOG_DIR=$work/nix/log
-  mkdir "$work/nix"
-  # (this set has the parts of nixpkgs that the recipe uses)
-  stand_in='{ stdenv.mkDerivation = it: it; python3 = "python3"; lib.licenses = { mit = "MIT"; asl20 = "Apache-2.0"; }; }'
-  for phase in installPhase installCheckPhase; do
-    HOME=$work nix-instantiate --eval --strict --json -E "(import $top/packaging/nix/default.nix { pkgs = $stand_in; }).$phase" \
-      2> "$work/said" | python3 -c 'import json, sys; print(json.load(sys.stdin))' > "$work/$phase"
-    well "$phase of Nix" env -C "$place" "out=$work/a nix" bash -e "$work/$phase"
-  done
-  same 'the source of Nix' "\"$top\"" \
-    "$(HOME=$work nix-instantiate --eval -E "toString (import $top/packaging/nix/default.nix { pkgs = $stand_in; }).src" 2> "$work/said")"
-  same 'verdicts of what Nix runs' "$right" "$(verdicts "$work/a nix/bin")"
-fi
-if has ruby; then
-  well "Homebrew's formula" env -C "$place" "HOMEBREW_CEFINDRATO=$place" ruby -w "$own/formula.rb" packaging/homebrew/cefindrato.rb "$work/brew"
-  same 'verdicts of what Homebrew runs' "$right" "$(verdicts "$work/brew/bin")"
-fi
-if has guile; then
+# The script of conda, and the commands that Nix and Homebrew would run.
+case_builders() {
+  well "conda's build.sh" env -C "$place" "PREFIX=$work/conda" bash -e packaging/conda/build.sh
+  same 'verdicts of the conda package' "$right" "$(verdicts "$work/conda/bin")"
+  if has nix-instantiate; then
+    export NIX_STORE_DIR=$work/nix/store NIX_STATE_DIR=$work/nix/state NIX_LOG_DIR=$work/nix/log
+    mkdir "$work/nix"
+    # (this set has the parts of nixpkgs that the recipe uses)
+    stand_in='{ stdenv.mkDerivation = it: it; python3 = "python3"; lib.licenses = { mit = "MIT"; asl20 = "Apache-2.0"; }; }'
+    for phase in installPhase installCheckPhase; do
+      HOME=$work nix-instantiate --eval --strict --json -E "(import $top/packaging/nix/default.nix { pkgs = $stand_in; }).$phase" \
+        2> "$work/said" | python3 -c 'import json, sys; print(json.load(sys.stdin))' > "$work/$phase"
+      well "$phase of Nix" env -C "$place" "out=$work/a nix" bash -e "$work/$phase"
+    done
+    same 'the source of Nix' "\"$top\"" \
+      "$(HOME=$work nix-instantiate --eval -E "toString (import $top/packaging/nix/default.nix { pkgs = $stand_in; }).src" 2> "$work/said")"
+    same 'verdicts of what Nix runs' "$right" "$(verdicts "$work/a nix/bin")"
+  fi
+  if has ruby; then
+    well "Homebrew's formula" env -C "$place" "HOMEBREW_CEFINDRATO=$place" ruby -w "$own/formula.rb" packaging/homebrew/cefindrato.rb "$work/brew"
+    same 'verdicts of what Homebrew runs' "$right" "$(verdicts "$work/brew/bin")"
+  fi
+}
+
+case_guix() {
+  only_with guile
   same 'the expressions of guix.scm' $'use-modules\ndefine\npackage' "$(guile --no-auto-compile -s "$own/read.scm" "$top/packaging/guix.scm" 2>&1)"
-fi
+}
 
-# The image, from static programs in an archive with the name of a packed release
-version=$(sed -n 's/^const VERSION: &str = "\([^ "]*\).*/\1/p' "$top/crates/command/src/status.rt")
-if has buildah; then
+# The image, from static programs in an archive with the name of a packed release.
+case_image() {
+  only_with buildah
   packed=cefindrato-$version-linux-x86_64-static
   mkdir -p "$work/release/$packed/bin" "$work/data"
   cp -R "$work/text" "$work/static"
@@ -188,17 +199,20 @@ if has buildah; then
   else
     echo "buildah does not work here: not tried: $(tail -n 1 "$work/said")"
   fi
-fi
+}
 
-# All recipes have the same version and maintainers; and no address, except one that is no mailbox, and that of a form of Debian's
-recipes=("$top"/{packaging,debian,action.yml,tools/release/{control,wheel.py,overrides,debian.sh}}
-  "$top"/bindings/{python/{pyproject.toml,build_backend.py},rust/Cargo.toml})
-same 'versions' "$(printf "$version\n%.0s" 1 2 3 4 5 6)" "$(sed -n -E \
-  's/^ *version =? ?"([^"]*)";?$/\1/p; s/^ *\(version "(.*)"\)$/\1/p; s/^  version: "(.*)"$/\1/p; s/^cefindrato \((.*)\) unstable.*/\1/p; s/^ARG VERSION=(.*)/\1/p' \
-  "$top"/packaging/{guix.scm,conda/meta.yaml,nix/default.nix,oci/Containerfile} "$top/debian/changelog" "$top/bindings/python/pyproject.toml")"
-same 'maintainers' "$(printf 'Cefindrato maintainers\n%.0s' 1 2 3 4 5)" "$(sed -n -E \
-  's/^Maintainer: ([^<]*[^< ]).*/\1/p; s/^maintainers = \[\{ name = "(.*)" \}\]$/\1/p' \
-  "$top"/{debian/control,tools/release/control,tools/release/wheel.py,bindings/python/pyproject.toml,bindings/python/build_backend.py})"
-same 'addresses' '' "$(grep -rnoE '[a-z]+://[^ ]*|<[^ <>]+@[^ <>]*>' "${recipes[@]}" |
-  grep -vE ':(https://www\.debian\.org/doc/packaging-manuals/copyright-format/1\.0/|<nobody@cefindrato\.invalid>)$')"
-exit "$wrong"
+# All recipes have the same version and maintainers; and no address, except one that is no mailbox, and that of a form of Debian's.
+case_recipes() {
+  recipes=("$top"/{packaging,debian,action.yml,tools/release/{control,wheel.py,overrides,debian.sh}}
+    "$top"/bindings/{python/{pyproject.toml,build_backend.py},rust/Cargo.toml})
+  same 'versions' "$(printf "$version\n%.0s" 1 2 3 4 5 6)" "$(sed -n -E \
+    's/^ *version =? ?"([^"]*)";?$/\1/p; s/^ *\(version "(.*)"\)$/\1/p; s/^  version: "(.*)"$/\1/p; s/^cefindrato \((.*)\) unstable.*/\1/p; s/^ARG VERSION=(.*)/\1/p' \
+    "$top"/packaging/{guix.scm,conda/meta.yaml,nix/default.nix,oci/Containerfile} "$top/debian/changelog" "$top/bindings/python/pyproject.toml")"
+  same 'maintainers' "$(printf 'Cefindrato maintainers\n%.0s' 1 2 3 4 5)" "$(sed -n -E \
+    's/^Maintainer: ([^<]*[^< ]).*/\1/p; s/^maintainers = \[\{ name = "(.*)" \}\]$/\1/p' \
+    "$top"/{debian/control,tools/release/control,tools/release/wheel.py,bindings/python/pyproject.toml,bindings/python/build_backend.py})"
+  same 'addresses' '' "$(grep -rnoE '[a-z]+://[^ ]*|<[^ <>]+@[^ <>]*>' "${recipes[@]}" |
+    grep -vE ':(https://www\.debian\.org/doc/packaging-manuals/copyright-format/1\.0/|<nobody@cefindrato\.invalid>)$')"
+}
+
+try_cases

@@ -118,13 +118,15 @@ unproved() {
 }
 
 libraries='../high/out/rlib/library ../left/out/rlib/library ../low/out/rlib/library ../right/out/rlib/library'
-runs 7 app --example 'two words'
-is 'what is written' "$(cat out)" "$libraries words: --example two words in elsewhere"
-is 'the calls' "$(sort calls | tr '\n' ' ')" 'lib high lib left lib low lib right run app_main try app_main '
-is 'what is kept' "$(find crates -name kept | wc -l)" 4
-is 'without proof' "$(unproved)" 'answer to -- --example two words'
-is 'what is told' "$(grep -v '^not proved' err | sed -E 's/, [0-9]+\.[0-9] minutes so far$/ M/; s/(of 5 crates: |^)(left|right)/\1SIDE/')" \
-  'proving 1 of 5 crates: low M
+
+case_run() {
+  runs 7 app --example 'two words'
+  is 'what is written' "$(cat out)" "$libraries words: --example two words in elsewhere"
+  is 'the calls' "$(sort calls | tr '\n' ' ')" 'lib high lib left lib low lib right run app_main try app_main '
+  is 'what is kept' "$(find crates -name kept | wc -l)" 4
+  is 'without proof' "$(unproved)" 'answer to -- --example two words'
+  is 'what is told' "$(grep -v '^not proved' err | sed -E 's/, [0-9]+\.[0-9] minutes so far$/ M/; s/(of 5 crates: |^)(left|right)/\1SIDE/')" \
+    'proving 1 of 5 crates: low M
 low: proved and built M
 proving 2 of 5 crates: SIDE M
 proving 3 of 5 crates: SIDE M
@@ -134,55 +136,67 @@ proving 4 of 5 crates: high M
 high: proved and built M
 proving 5 of 5 crates: app_main M
 app_main: proved and built M'
+}
 
 # The run without proof writes no file that is named, and reads copies.
-mkdir folder
-touch elsewhere/near folder/near folder/far
-runs 7 app near ../folder/near "$work/folder/far" ../folder/far --lrat=../folder/written --holds=near plain stdout --ids=way
-is 'the words without proof' "$(unproved)" "answer to --data near=$work/elsewhere/near --data 1-near=$work/folder/near \
+case_named_files() {
+  mkdir folder
+  touch elsewhere/near folder/near folder/far
+  runs 7 app near ../folder/near "$work/folder/far" ../folder/far --lrat=../folder/written --holds=near plain stdout --ids=way
+  is 'the words without proof' "$(unproved)" "answer to --data near=$work/elsewhere/near --data 1-near=$work/folder/near \
 --data far=$work/folder/far --data 3-far=$work/folder/far -- near 1-near far 3-far --lrat=written --holds=near plain stdout --ids=way"
-is 'the proved words' "$(cat out)" \
-  "$libraries words: near ../folder/near $work/folder/far ../folder/far --lrat=../folder/written --holds=near plain stdout --ids=way in elsewhere"
-touch elsewhere/stdout
-runs 7 app stdout /=
-is 'names that are taken' "$(unproved)" "answer to --data 0-stdout=$work/elsewhere/stdout -- 0-stdout -"
+  is 'the proved words' "$(cat out)" \
+    "$libraries words: near ../folder/near $work/folder/far ../folder/far --lrat=../folder/written --holds=near plain stdout --ids=way in elsewhere"
+  touch elsewhere/stdout
+  runs 7 app stdout /=
+  is 'names that are taken' "$(unproved)" "answer to --data 0-stdout=$work/elsewhere/stdout -- 0-stdout -"
+}
 
 # Standard input: both read it all, or neither.
-printf 'a\nb\n' | runs 7 app -
-is 'standard input without proof' "$(unproved)" $'answer to -- -\na\nb'
-is 'proved' "$(cat out)" "$libraries words: - in elsewhere"$'\na\nb'
-printf 'a\nb\n' | {
-  runs 7 app
-  is 'what is left of it' "$(cat)" $'a\nb'
+case_standard_input() {
+  printf 'a\nb\n' | runs 7 app -
+  is 'standard input without proof' "$(unproved)" $'answer to -- -\na\nb'
+  is 'proved' "$(cat out)" "$libraries words: - in elsewhere"$'\na\nb'
+  printf 'a\nb\n' | {
+    runs 7 app
+    is 'what is left of it' "$(cat)" $'a\nb'
+  }
+  is 'without proof and input' "$(unproved)" 'answer to --'
 }
-is 'without proof and input' "$(unproved)" 'answer to --'
 
 # A run without proof that gives no answer, and one that is not over when all is proved.
-LAST='run=none proved=no' runs 7 app
-is 'no answer' "$(unproved)" $'answer to --\nrun=none proved=no'
-IS_SLOW=1 runs 7 app
-is 'what is slow' "$(unproved)" ''
-is 'what is slow still runs' "$(kill -0 "$(< tried)" 2> said && echo yes)" ''
+case_no_answer() {
+  LAST='run=none proved=no' runs 7 app
+  is 'no answer' "$(unproved)" $'answer to --\nrun=none proved=no'
+  IS_SLOW=1 runs 7 app
+  is 'what is slow' "$(unproved)" ''
+  is 'what is slow still runs' "$(kill -0 "$(< tried)" 2> said && echo yes)" ''
+}
 
-# Without a run
-rm -r crates/*/out
-runs 0 --build app
-is 'what is built' "$(cat out) $(cd crates/app_main && find .. -name library | sort | tr '\n' ' ')" " $libraries "
-is 'the calls of a build' "$(sort calls | tr '\n' ' ')" 'lib high lib left lib low lib right run app_main '
-FAILS_TO_RUN=1 runs 1 --build app
-is 'a program that is not built' "$(tail -n 1 err)" 'app_main was not built'
+# Without a run.
+case_build() {
+  runs 0 --build app
+  is 'what is built' "$(cat out) $(cd crates/app_main && find .. -name library | sort | tr '\n' ' ')" " $libraries "
+  is 'the calls of a build' "$(sort calls | tr '\n' ' ')" 'lib high lib left lib low lib right run app_main '
+  FAILS_TO_RUN=1 runs 1 --build app
+  is 'a program that is not built' "$(tail -n 1 err)" 'app_main was not built'
+}
 
-rm -r crates/*/out
-FAILS=right runs 1 app
-is 'what is said of a library that is not built' "$(tail -n 2 err)" $'words about right\nright was not built'
-is 'what is built above it' "$(grep -c 'high\|run' calls || true)" 0
+case_failing_library() {
+  FAILS=right runs 1 app
+  is 'what is said of a library that is not built' "$(tail -n 2 err)" $'words about right\nright was not built'
+  is 'what is built above it' "$(grep -c 'high\|run' calls || true)" 0
+}
 
-usage='usage: tools/prove_and_run [--build] PROGRAM [ARGUMENT..]'
-for words in other '' --build '--build other' '--build app word'; do
-  # shellcheck disable=SC2086
-  runs 2 $words
-  is "what is said of '$words'" "$(cat err)" "$usage"
-done
-RT=$work/none runs 1 app
-is 'what is said of no rt' "$(cat err)" "$work/none is not on the path: it comes with the toolchain"
-exit "$wrong"
+case_words() {
+  usage='usage: tools/prove_and_run [--build] PROGRAM [ARGUMENT..]'
+  for words in other '' --build '--build other' '--build app word'; do
+    # shellcheck disable=SC2086
+    runs 2 $words
+    is "what is said of '$words'" "$(cat err)" "$usage"
+  done
+  RT=$work/none runs 1 app
+  is 'what is said of no rt' "$(cat err)" "$work/none is not on the path: it comes with the toolchain"
+}
+
+try_cases

@@ -31,47 +31,52 @@ ends() {
   wait "$1" || status=$?
 }
 
-# Lines through a pipe that stays open. The checker ends at the first line that is refused, and at the empty clause. The
-# header is wrong, so that there may be a warning beside the answer.
 printf 'p cnf 1 9\n1 2 0 1 -2 0 -1 2 0 -1 -2 0' > four.cnf
-for last in '6 0 5 3 0' '6 0 5 3 4 0'; do
-  mkfifo lines
-  "$lrat_check" four.cnf lines > said 2> err &
-  pid=$!
-  exec 3> lines
-  echo '5 1 0 1 2 0' >&3
-  sleep 0.3
-  if ! kill -0 "$pid" 2> null; then
-    echo "the checker has ended before the pipe's last line"
-    wrong=1
-  fi
-  echo "$last" >&3
-  ends "$pid"
-  exec 3>&-
-  rm lines
-  if [[ $last == '6 0 5 3 0' ]]; then
-    wants 1 '' 'a wrong line'
-    if [[ $(head -n 1 err) != 'proof: line 2: hints end without a conflict' ]]; then
-      cat err
-      wrong=1
-    fi
-  else
-    wants 0 's VERIFIED UNSAT' 'the empty clause'
-  fi
-done
-
 compiled=(c++ -std=c++17 -O2 -Wall -Wextra -Werror -pthread -I"$top/bindings/c" -I"$top/bindings/cpp")
-if has c++; then
-  "${compiled[@]}" -o running "$top/tests/bindings/running.cpp"
-  ./running "$lrat_check" four.cnf || wrong=1
-fi
-PYTHONPATH=$top/bindings/python python3 -B "$top/tests/bindings/running.py" "$lrat_check" four.cnf || wrong=1
-
 formula pigeons 6 > pigeons.cnf
 formula multiplier 5 > multiplier.cnf
 grep -v '^1 2 3 4 5 6 0$' pigeons.cnf | sed 's/^p cnf 42 133$/p cnf 42 132/' > six.cnf
 
-if has cadical; then
+# Lines through a pipe that stays open. The checker ends at the first line that is refused, and at the empty clause. The
+# header is wrong, so that there may be a warning beside the answer.
+case_lines() {
+  for last in '6 0 5 3 0' '6 0 5 3 4 0'; do
+    mkfifo lines
+    "$lrat_check" four.cnf lines > said 2> err &
+    pid=$!
+    exec 3> lines
+    echo '5 1 0 1 2 0' >&3
+    sleep 0.3
+    if ! kill -0 "$pid" 2> null; then
+      echo "the checker has ended before the pipe's last line"
+      wrong=1
+    fi
+    echo "$last" >&3
+    ends "$pid"
+    exec 3>&-
+    rm lines
+    if [[ $last == '6 0 5 3 0' ]]; then
+      wants 1 '' 'a wrong line'
+      if [[ $(head -n 1 err) != 'proof: line 2: hints end without a conflict' ]]; then
+        cat err
+        wrong=1
+      fi
+    else
+      wants 0 's VERIFIED UNSAT' 'the empty clause'
+    fi
+  done
+}
+
+case_libraries() {
+  if has c++; then
+    "${compiled[@]}" -o running "$top/tests/bindings/running.cpp"
+    ./running "$lrat_check" four.cnf || wrong=1
+  fi
+  PYTHONPATH=$top/bindings/python python3 -B "$top/tests/bindings/running.py" "$lrat_check" four.cnf || wrong=1
+}
+
+case_solver() {
+  only_with cadical
   for name in pigeons multiplier; do
     mkfifo steps
     cadical -q "$name.cnf" steps > solved 2>&1 &
@@ -88,10 +93,12 @@ if has cadical; then
     wants 0 's VERIFIED UNSAT' "cadical $name, by a named pipe"
     rm steps
   done
-fi
+}
 
-echo '#include <cadical.hpp>' > has.cpp
-if has c++ && c++ -E has.cpp > null 2>&1; then
+case_solver_library() {
+  echo '#include <cadical.hpp>' > has.cpp
+  only_with c++
+  c++ -E has.cpp > null 2>&1 || untried 'the header cadical.hpp is not installed'
   "${compiled[@]}" -o with_cadical "$top/bindings/cpp/with_cadical.cpp" -lcadical
   # run STATUS OUTPUT ARGUMENT..: the program with the solver's library must end so
   run() {
@@ -107,7 +114,6 @@ if has c++ && c++ -E has.cpp > null 2>&1; then
   # a checker that is not there
   drat_check=./none
   run 2 '' pigeons.cnf
-else
-  echo "the header cadical.hpp is not installed: not tried"
-fi
-exit "$wrong"
+}
+
+try_cases

@@ -8,18 +8,17 @@ judged.py edit TABLE NAME FIELD VALUE     the last row of this formula is edited
 """
 
 import hashlib
-import itertools
 import json
 import os
 import random
 import shutil
 import sys
 
+sys.path.append(os.path.dirname(os.path.dirname(os.path.abspath(__file__))))
+
+from dimacs import dimacs, is_satisfiable  # noqa: E402
+
 VARIABLES = 7
-
-
-def can_be_satisfied(clauses):
-    return any(all(any((it > 0) == values[abs(it) - 1] for it in clause) for clause in clauses) for values in itertools.product((False, True), repeat=VARIABLES))
 
 
 def make(folder, count, seed):
@@ -30,8 +29,8 @@ def make(folder, count, seed):
             clauses = [[draw.choice((1, -1)) * it for it in draw.sample(range(1, VARIABLES + 1), 3)] for _ in range(draw.randrange(25, 65))]
             name = f"{folder}/{number:02}.cnf"
             with open(name, "w", encoding="ascii") as file:
-                file.write(f"p cnf {VARIABLES} {len(clauses)}\n" + "".join(f"{' '.join(map(str, it))} 0\n" for it in clauses))
-            truth.write(f"{name}\t{'s VERIFIED SAT' if can_be_satisfied(clauses) else 's VERIFIED UNSAT'}\n")
+                file.write(dimacs(clauses, VARIABLES))
+            truth.write(f"{name}\t{'s VERIFIED SAT' if is_satisfiable(clauses) else 's VERIFIED UNSAT'}\n")
 
 
 def rows_in(table):

@@ -14,8 +14,13 @@ formulas.py turns SIZE                     DPR: of `board`, no two dominoes lie 
 """
 
 import itertools
+import os
 import random
 import sys
+
+sys.path.append(os.path.dirname(os.path.dirname(os.path.abspath(__file__))))
+
+from dimacs import dimacs, line  # noqa: E402
 
 
 def random_clauses(variables, ratio, seed):
@@ -226,13 +231,8 @@ def turned_board(size):
     return board(size) + [clause[:2] for _, clause in turns(size)]
 
 
-def dimacs(clauses):
-    variables = max((abs(it) for clause in clauses for it in clause), default=0)
-    return f"p cnf {variables} {len(clauses)}\n" + "".join(f"{' '.join(map(str, [*it, 0]))}\n" for it in clauses)
-
-
 def drat(steps):
-    return "".join(("d " if gone else "") + " ".join(map(str, [*clause, 0])) + "\n" for gone, clause in steps)
+    return "".join(("d " if gone else "") + line(clause) for gone, clause in steps)
 
 
 def binary_drat(steps):

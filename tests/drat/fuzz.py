@@ -8,14 +8,18 @@ no choice of clauses and steps comes to a conflict, the proof must be refused, t
 refused is judged by `refusal.py`.
 """
 
-import itertools
+import os
 import random
 import subprocess
 import sys
 import tempfile
 
-import refusal
-from formulas import binary_drat, dimacs, drat
+sys.path.append(os.path.dirname(os.path.dirname(os.path.abspath(__file__))))
+
+import refusal  # noqa: E402
+from dimacs import dimacs, is_satisfiable  # noqa: E402
+from formulas import binary_drat, drat  # noqa: E402
+
 
 def propagate(clauses, true):
     """The literals that follow by units, or None for a conflict."""
@@ -142,15 +146,6 @@ class Choices:
             return True
         at, against = wrong[0]
         return self.can_be_verified(out | {at}) or bool(against) and self.can_be_verified(out | set(against))
-
-
-def is_satisfiable(formula):
-    variables = sorted({abs(it) for clause in formula for it in clause})
-    for signs in itertools.product((1, -1), repeat=len(variables)):
-        true = {sign * it for sign, it in zip(signs, variables)}
-        if all(any(it in true for it in clause) for clause in formula):
-            return True
-    return False
 
 
 class Case:

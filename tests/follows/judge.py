@@ -16,6 +16,10 @@ import sys
 import tempfile
 from pathlib import Path
 
+sys.path.append(str(Path(__file__).resolve().parent.parent))
+
+from dimacs import dimacs, lines, variables  # noqa: E402
+
 FOLLOWS, NOT_FOLLOWS = "s VERIFIED FOLLOWS\n", "s VERIFIED NOT FOLLOWS\n"
 MINIMAL, NOT_VERIFIED = "s VERIFIED MINIMAL\n", "s NOT VERIFIED\n"
 
@@ -33,18 +37,6 @@ def satisfying(clauses, count):
     return (values for values in assignments(count) if all(is_met(clause, values) for clause in clauses))
 
 
-def variables(*formulas):
-    return max((abs(literal) for formula in formulas for clause in formula for literal in clause), default=0)
-
-
-def text(clauses):
-    return "".join(f"{' '.join(map(str, [*clause, 0]))}\n" for clause in clauses)
-
-
-def with_header(clauses):
-    return f"p cnf {variables(clauses)} {len(clauses)}\n{text(clauses)}"
-
-
 def question(formula, claims):
     """The formula for the solver, by its definition."""
     first = variables(formula, claims) + 1
@@ -58,7 +50,7 @@ def all_cases(count):
     cases = []
     for length in range(count, -1, -1):
         cases += [[-literal for literal in values] for values in assignments(length)]
-    return text(cases)
+    return lines(cases)
 
 
 class Tries:
@@ -91,9 +83,9 @@ class Tries:
 
     def claims(self, formula, claims):
         count = variables(formula, claims)
-        self.write(formula=with_header(formula), claims=with_header(claims), proof=all_cases(count))
+        self.write(formula=dimacs(formula), claims=dimacs(claims), proof=all_cases(count))
         self.wants("a formula for the solver", "follows", ["formula", "claims", "--formula", "asked"], 0, "", "")
-        self.same("its text", (self.folder / "asked").read_text(), with_header(question(formula, claims)))
+        self.same("its text", (self.folder / "asked").read_text(), dimacs(question(formula, claims)))
         found = [values for values in satisfying(formula, count) if not all(is_met(claim, values) for claim in claims)]
         if not found:
             self.wants("claims that follow", "follows", ["formula", "claims", "proof"], 20, FOLLOWS, "")
@@ -108,7 +100,7 @@ class Tries:
 
     def answers(self, formula, claims, values):
         """Any assignment, as an answer."""
-        self.write(formula=with_header(formula), claims=with_header(claims), answer=f"{' '.join(map(str, values))} 0\n")
+        self.write(formula=dimacs(formula), claims=dimacs(claims), answer=f"{' '.join(map(str, values))} 0\n")
         words = ["formula", "claims", "answer", "--answer"]
         unmet = [place for place, clause in enumerate(formula, 1) if not is_met(clause, values)]
         failed = [place for place, claim in enumerate(claims, 1) if not is_met(claim, values)]
@@ -124,22 +116,22 @@ class Tries:
     def core(self, core, source):
         count = variables(core)
         models = [next(satisfying(core[:place] + core[place + 1 :], count)) for place in range(len(core))]
-        self.write(core=with_header(core), proof=all_cases(count), models=text(models))
+        self.write(core=dimacs(core), proof=all_cases(count), models=lines(models))
         words = ["core", "proof", "models"]
         self.wants("a core", "minimal", words, 0, MINIMAL, "")
         # a model of another clause, and one that is missing
         place, values = source.randrange(len(core)), source.choice(list(assignments(count)))
         unmet = [number for number, clause in enumerate(core) if number != place and not is_met(clause, values)]
-        self.write(models=text([*models[:place], values, *models[place + 1 :]]))
+        self.write(models=lines([*models[:place], values, *models[place + 1 :]]))
         if unmet:
             told = f"models: that for clause {place + 1} does not satisfy clause {unmet[0] + 1}"
             self.wants("another model", "minimal", words, 3, NOT_VERIFIED, told)
         else:
             self.wants("another model that will do", "minimal", words, 0, MINIMAL, "")
-        self.write(models=text(models[:place]))
+        self.write(models=lines(models[:place]))
         told = f"models: there is none for clause {place + 1}"
         self.wants("a missing model", "minimal", words, 3, NOT_VERIFIED, told)
-        self.write(core=with_header([*core, core[place]]), models=text([*models, models[place]]))
+        self.write(core=dimacs([*core, core[place]]), models=lines([*models, models[place]]))
         told = f"models: that for clause {place + 1} does not satisfy clause {len(core) + 1}"
         self.wants("a clause that stands twice", "minimal", words, 3, NOT_VERIFIED, told)
 
@@ -187,7 +179,7 @@ def try_solver(tries, source):
     for _ in range(12):
         formula = [[source.choice((1, -1)) * it for it in source.sample(range(1, 61), 3)] for _ in range(230)]
         claims = [[source.choice((1, -1)) * it for it in source.sample(range(1, 61), 4)] for _ in range(source.choice((1, 3)))]
-        tries.write(formula=with_header(formula), claims=with_header(claims))
+        tries.write(formula=dimacs(formula), claims=dimacs(claims))
         tries.wants("a formula for cadical", "follows", ["formula", "claims", "--formula", "asked"], 0, "", "")
         solved = subprocess.run(["cadical", "-q", "asked", "proof"], cwd=tries.folder, capture_output=True, text=True)
         statuses.add(solved.returncode)
@@ -206,16 +198,16 @@ def try_picomus(tries, source):
         print("picomus or cadical is not installed: not tried")
         return
     formula = [[source.choice((1, -1)) * it for it in source.sample(range(1, 21), 3)] for _ in range(140)]
-    tries.write(formula=with_header(formula))
+    tries.write(formula=dimacs(formula))
     subprocess.run(["picomus", "formula", "core"], cwd=tries.folder, capture_output=True, check=False)
-    lines = (tries.folder / "core").read_text().splitlines()
-    core = [list(map(int, line.split()[:-1])) for line in lines if line[:1] not in ("c", "p")]
+    rows = (tries.folder / "core").read_text().splitlines()
+    core = [list(map(int, row.split()[:-1])) for row in rows if row[:1] not in ("c", "p")]
     models = []
     for place in range(len(core)):
-        tries.write(others=with_header(core[:place] + core[place + 1 :]))
+        tries.write(others=dimacs(core[:place] + core[place + 1 :]))
         solved = subprocess.run(["cadical", "-q", "others"], cwd=tries.folder, capture_output=True, text=True)
         models.append([it for line in solved.stdout.splitlines() if line[:1] == "v" for it in line.split()[1:] if it != "0"])
-    tries.write(core=with_header(core), models=text(models))
+    tries.write(core=dimacs(core), models=lines(models))
     subprocess.run(["cadical", "-q", "core", "proof"], cwd=tries.folder, capture_output=True, check=False)
     tries.wants("a core of picomus", "minimal", ["core", "proof", "models"], 0, MINIMAL, "")
 

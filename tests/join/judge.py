@@ -19,6 +19,10 @@ import sys
 import tempfile
 from pathlib import Path
 
+sys.path.append(os.path.dirname(os.path.dirname(os.path.abspath(__file__))))
+
+from dimacs import dimacs, is_satisfiable, lines, variables  # noqa: E402
+
 NOT_VERIFIED = "s NOT VERIFIED\n"
 NO_PATH = "no receipts lead from the formula to one that is refuted"
 
@@ -43,18 +47,6 @@ def carries(text, other):
     return f"carries sha256 {digest(text)} sha256 {digest(other)}\n"
 
 
-def lines(clauses):
-    return "".join(f"{' '.join(map(str, [*clause, 0]))}\n" for clause in clauses)
-
-
-def variables(clauses):
-    return max((abs(literal) for clause in clauses for literal in clause), default=0)
-
-
-def dimacs(clauses):
-    return f"p cnf {variables(clauses)} {len(clauses)}\n{lines(clauses)}"
-
-
 def laid_out(dice, clauses):
     """The formula as another text: comments, blanks, and clauses over several lines."""
     words = " ".join(dice.choice((f"{literal} ", f"{literal}\n", f"\nc of it\n{literal}\t")) for clause in clauses for literal in [*clause, 0])
@@ -64,14 +56,6 @@ def laid_out(dice, clauses):
 def part_text(clauses):
     """What a checker reads of a part: no header."""
     return lines(clauses)
-
-
-def is_satisfiable(clauses):
-    names = range(1, variables(clauses) + 1)
-    for values in itertools.product(*((name, -name) for name in names)):
-        if all(any(literal in values for literal in clause) for clause in clauses):
-            return True
-    return False
 
 
 def parts(formula, cubes):

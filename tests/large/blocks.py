@@ -16,8 +16,13 @@ damaged.answer, and `places`: the numbers of the step, the line and the clause w
 the last step, which is wrong after the satisfiable formula.
 """
 
+import os
 import random
 import sys
+
+sys.path.append(os.path.dirname(os.path.dirname(os.path.abspath(__file__))))
+
+from dimacs import dimacs, line, lines  # noqa: E402
 
 BLOCKS, DAMAGED = 13000, 6500
 
@@ -54,21 +59,13 @@ class Formula:
         yield [], [self.ids["first"], *units, self.ids["last"]]
 
 
-def line_of(numbers):
-    return " ".join(map(str, [*numbers, 0])) + "\n"
-
-
-def dimacs(variables, clauses):
-    return f"p cnf {variables} {len(clauses)}\n" + "".join(map(line_of, clauses))
-
-
 def lrat(first, steps):
-    return "".join(line_of([n, *clause, 0, *hints]) for n, (clause, hints) in enumerate(steps, first))
+    return "".join(line([n, *clause, 0, *hints]) for n, (clause, hints) in enumerate(steps, first))
 
 
 def answer(literals):
-    lines = [literals[at : at + 20] for at in range(0, len(literals), 20)]
-    return "s SATISFIABLE\n" + "".join(f"v {' '.join(map(str, it))}\n" for it in lines) + "v 0\n"
+    rows = [literals[at : at + 20] for at in range(0, len(literals), 20)]
+    return "s SATISFIABLE\n" + "".join(f"v {' '.join(map(str, it))}\n" for it in rows) + "v 0\n"
 
 
 def main(folder):
@@ -81,13 +78,13 @@ def main(folder):
     model = [*formula.t, *formula.a, *formula.b]
     damaged = [-it if it == formula.t[DAMAGED] else it for it in model]
     texts = {
-        "cnf": dimacs(variables, formula.clauses),
-        "drat": "".join(map(line_of, clauses)),
-        "damaged.drat": "".join(map(line_of, clauses[:at] + clauses[at + 1 :])),
+        "cnf": dimacs(formula.clauses, variables),
+        "drat": lines(clauses),
+        "damaged.drat": lines(clauses[:at] + clauses[at + 1 :]),
         "lrat": lrat(count + 1, steps),
         "damaged.lrat": lrat(count + 1, short),
         "unnamed.lrat": lrat(count + 1, unnamed),
-        "sat.cnf": dimacs(variables, formula.clauses[:-1]),
+        "sat.cnf": dimacs(formula.clauses[:-1], variables),
         "answer": answer(model),
         "damaged.answer": answer(damaged),
         "places": f"{at + 1} {at + 2} {formula.ids[DAMAGED - 1, 3]} {len(steps)}\n",

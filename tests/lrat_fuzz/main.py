@@ -8,11 +8,14 @@ import tempfile
 from concurrent.futures import ThreadPoolExecutor
 from pathlib import Path
 
-import binary
-import rules
-import texts
-
 TOP = Path(__file__).resolve().parent.parent.parent
+sys.path.append(str(TOP / "tests"))
+
+import binary  # noqa: E402
+import rules  # noqa: E402
+import texts  # noqa: E402
+from dimacs import dimacs, is_satisfiable  # noqa: E402
+
 VERIFIED = "s VERIFIED UNSAT\n"
 OPEN = "s NOT VERIFIED\n"
 SHOWN = "s UNSATISFIABLE\n"
@@ -44,11 +47,6 @@ def is_as(answer, ran, lines, place="proof: line"):
     return error in {f"{place} {answer.line}: {cause}" for cause in causes}
 
 
-def dimacs(formula):
-    head = f"p cnf {max((abs(lit) for clause in formula for lit in clause), default=0)} {len(formula)}\n"
-    return head + "".join(" ".join(map(str, clause + [0])) + "\n" for clause in formula)
-
-
 class Programs:
     def __init__(self, check, convert, check_bytes, check_hints):
         self.check, self.convert, self.check_bytes, self.check_hints = check, convert, check_bytes, check_hints
@@ -66,7 +64,7 @@ class Programs:
         return [f"seed {seed}: {what}" for what in found]
 
     def compare(self, formula, text, cnf, lrat, proof):
-        refutable = not texts.is_satisfiable(formula)
+        refutable = not is_satisfiable(formula)
         right = rules.judge(formula, text)
         checked = run(self.check, cnf, lrat)
         if "VERIFIED UNSAT" in checked[1] and not refutable:
@@ -107,7 +105,7 @@ class Programs:
             data = binary.damaged(rng, data)
         lrat.write_bytes(data)
         told = binary.are_doubled(data, len(formula))
-        refutable = not texts.is_satisfiable(formula)
+        refutable = not is_satisfiable(formula)
         for way, words in ((doubled, ["--ids", "doubled" if doubled else "plain"]), (told, [])):
             read_lines = (lambda data: binary.lines_of(data, way)) if binary.is_binary(data) else rules.lines_of
             for what in self.compare_form(refutable, formula, data, read_lines, words, cnf, lrat, proof):

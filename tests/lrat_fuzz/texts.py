@@ -1,16 +1,7 @@
 """Random formulas of few variables, and LRAT texts for them: right lines, and damaged ones."""
-import itertools
+from dimacs import is_satisfiable
 
 MARKS = b"0123456789 -dcx\t\r\n%+."
-
-
-def is_satisfiable(formula):
-    variables = sorted({abs(lit) for clause in formula for lit in clause})
-    for signs in itertools.product((1, -1), repeat=len(variables)):
-        true = {sign * variable for sign, variable in zip(signs, variables)}
-        if all(any(lit in true for lit in clause) for clause in formula):
-            return True
-    return False
 
 
 def random_clause(rng, count, sizes):

@@ -14,6 +14,10 @@ import sys
 import tempfile
 from pathlib import Path
 
+sys.path.append(str(Path(__file__).resolve().parent.parent))
+
+import dimacs  # noqa: E402
+
 VERIFIED, NOT_VERIFIED = "s VERIFIED SAT\n", "s NOT VERIFIED\n"
 
 
@@ -39,7 +43,7 @@ class Tries:
         parts = [literals[i : i + 7] for i in range(0, len(literals), 7)]
         text = "".join(f"v {' '.join(map(str, part))}\n" for part in parts)
         lines, rows = range(1, len(clauses) + 1), [2 + place // 7 for place in range(len(literals))]
-        self.wants(name, dimacs(clauses), f"s SATISFIABLE\n{text}v 0\n", *definition(clauses, literals, lines, rows))
+        self.wants(name, dimacs.lines(clauses), f"s SATISFIABLE\n{text}v 0\n", *definition(clauses, literals, lines, rows))
 
     def spread(self, name, clauses, literals, source):
         """The clauses with any blanks, line ends and comments between their numbers."""
@@ -49,10 +53,6 @@ class Tries:
 
     def refused(self, name, cnf, answer, line, why):
         self.wants(name, cnf, answer, 1, "", f"answer: line {line}: {why}")
-
-
-def dimacs(clauses):
-    return "".join(f"{' '.join(map(str, [*clause, 0]))}\n" for clause in clauses)
 
 
 def spread(clauses, source):

@@ -36,7 +36,8 @@ class Turned:
 
     def sum(self):
         crate = f"{ROOT}/crates/{self.rows}"
-        files = files_in(f"{crate}/src", f"{crate}/specs") if self.rows == ROWS else [f"{crate}/specs/Rows.antt"]
+        files = files_in(f"{crate}/specs")
+        files = files + files_in(f"{crate}/src") if self.rows == ROWS else [it for it in files if it.endswith("Rows.antt")]
         rows = {os.path.relpath(it, crate): words_of(it) for it in files}
         return sum_over({**rows, "it": words_in(self.text), "file": words_of(f"{ROOT}/{self.file}")})[:16]
 

@@ -1,8 +1,8 @@
 -- What reading an answer gives.
 --     ListsThe known table      the literals that the text lists are in the set
 --     FailsBy known fault      why no literals are given
-use Rattle.std.specs.Prelude.{◌≡◌, ℕ, List, ◌++◌, Option, Result, Ok, Err, IfSome}
-use Rattle.std.specs.Io.KnownBytes.{Consumes}
+use Rattle.std.specs.Prelude.{◌≡◌, ℕ, List, Option, Result, Ok, Err, IfSome}
+use Rattle.sat_formula.specs.Readings.{Leads}
 use Rattle.answer_text.specs.declared.fault.AnswerFault.{AnswerFault}
 use Rattle.answer_text.specs.declared.fault.AnswerFault.TheVariants as faults
 use Rattle.answer_text.specs.declared.fault.Stop.{Stop}
@@ -16,18 +16,12 @@ use Rattle.answer_text.specs.Answers.{Outcome, Lists, Faulty, Step, On, Off, out
 abbrev pub IsOutcome : Option (List ℕ) → Outcome → Type 0
 IsOutcome known o = IfSome known (λ text. outcome_of text ≡ o)
 
--- From old to new some bytes were taken: whatever comes after them, the text says what comes from this spot on.
-pub record Leads (old new : Option (List ℕ)) (lits : List ℕ) (s : Spot) : Type 0 where
-  pub bytes : List ℕ
-  pub consumed : Consumes old new bytes
-  pub same : (more : List ℕ) → outcome_of (bytes ++ more) ≡ outcome_at lits s more
-
 -- the literals so far, of which no two are opposite, are in the set, and the bytes so far lead to this spot
 pub record HasRead (old new : Option (List ℕ)) (table : Literals) (s : Spot) : Type 0 where
   pub lits : List ℕ
   pub apart : IsConsistent (listed lits)
   pub has : HasThe lits table
-  pub leads : Leads old new lits s
+  pub leads : Leads old new outcome_of (outcome_at lits s)
 
 -- the literals that the text lists are in the set, and no two of them are opposite
 pub record ListsThe (known : Option (List ℕ)) (table : Literals) : Type 0 where

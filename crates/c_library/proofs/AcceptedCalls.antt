@@ -1,8 +1,8 @@
 -- A status of 0 is that of an accepted call.
 use Rattle.std.proofs.Common.{◌≡◌, Result, Ok, Err, OnOk, arith}
-use Rattle.session_handle.specs.Answers.{status_of}
-use Rattle.session_handle.specs.declared.fault.HandleFault.{HandleFault}
-use Rattle.session_handle.specs.declared.fault.HandleFault.TheVariants.{Begun, NoLit, NoSession, OutOfMemory, Refused}
+use Rattle.handles.specs.SessionAnswers.{status_of}
+use Rattle.handles.specs.declared.session_fault.HandleFault.{HandleFault}
+use Rattle.handles.specs.declared.session_fault.HandleFault.TheVariants.{Begun, NoLit, NoSession, OutOfMemory, Refused}
 
 -- what holds of an accepted call
 pub accepted : (r : Result (Unit {0}) HandleFault) (X : Type 0) → status_of r ≡ 0 → OnOk r X → X

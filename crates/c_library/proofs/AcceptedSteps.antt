@@ -2,10 +2,10 @@
 use Rattle.std.proofs.Common.{◌≡◌, IfSome, Option, Some, None, Result, Ok, Err, OnOk, arith, subst, sym}
 use Rattle.checker_rules.specs.State.{State}
 use Rattle.checker_rules.specs.Steps.{new_state}
-use Rattle.checker_handle.specs.Answers.{status_of}
-use Rattle.checker_handle.specs.Calls.{IsBegin}
-use Rattle.checker_handle.specs.declared.fault.CallFault.{CallFault}
-use Rattle.checker_handle.specs.declared.fault.CallFault.TheVariants.{Begun, Failed, GaveUp, NoChecker, NoLit, NoStep, OutOfMemory, Refused}
+use Rattle.handles.specs.CheckerAnswers.{status_of}
+use Rattle.handles.specs.CheckerCalls.{IsBegin}
+use Rattle.handles.specs.declared.checker_fault.CallFault.{CallFault}
+use Rattle.handles.specs.declared.checker_fault.CallFault.TheVariants.{Begun, Failed, GaveUp, NoChecker, NoLit, NoStep, OutOfMemory, Refused}
 
 -- what holds of an accepted call
 pub accepted : (r : Result (Unit {0}) CallFault) (X : Type 0) → status_of r ≡ 0 → OnOk r X → X

@@ -7,7 +7,7 @@ use Rattle.std.specs.Global.{Vec}
 use Rattle.verdicts.specs.declared.verdict.Verdict.{Verdict}
 use Rattle.verdicts.specs.declared.verdict.Verdict.TheVariants.{Verified, NotVerified}
 use Rattle.drat_check.specs.Outputs.{AllWritten, WritesOutputs, WroteCore, WroteProof, bytes_in}
-use Rattle.piece_runs.specs.Texts.{OfFormula}
+use Rattle.verdicts.specs.Texts.{OfFormula}
 use Rattle.drat_check.specs.Runs.{HasNoFormula}
 use Rattle.drat_check.specs.declared.fault.RunFault.{RunFault}
 use Rattle.drat_check.specs.declared.outputs.Outputs.{Outputs}

@@ -7,14 +7,14 @@ use Rattle.checker_rules.specs.State.{State}
 use Rattle.checker_rules.specs.Step.{Step, add_clause}
 use Rattle.checker_rules.specs.Steps.{step}
 use Rattle.checker_parts.specs.Answers.{IsCovered, IsFold}
-use Rattle.handle_parts.specs.Numbers.{are_lits, lits_of}
-use Rattle.checker_handle.specs.Answers.{cause_of, rejected_step, status_of}
-use Rattle.checker_handle.specs.Calls.{IsBegin, IsCall, UnlessFailed, with_step}
-use Rattle.checker_handle.specs.Held.{state_of}
-use Rattle.checker_handle.specs.States.{HasState}
-use Rattle.checker_handle.specs.declared.answer.CheckerAnswer.{CheckerAnswer}
-use Rattle.checker_handle.specs.declared.fault.CallFault.{CallFault}
-use Rattle.checker_handle.specs.declared.handle.CheckerHandle.{CheckerHandle}
+use Rattle.handles.specs.Numbers.{are_lits, lits_of}
+use Rattle.handles.specs.CheckerAnswers.{cause_of, rejected_step, status_of}
+use Rattle.handles.specs.CheckerCalls.{IsBegin, IsCall, UnlessFailed, with_step}
+use Rattle.handles.specs.CheckerHeld.{state_of}
+use Rattle.handles.specs.CheckerStates.{HasState}
+use Rattle.handles.specs.declared.checker_answer.CheckerAnswer.{CheckerAnswer}
+use Rattle.handles.specs.declared.checker_fault.CallFault.{CallFault}
+use Rattle.handles.specs.declared.checker.CheckerHandle.{CheckerHandle}
 
 -- accepted, or the fault that ended the call
 abbrev pub Outcome : Type 0

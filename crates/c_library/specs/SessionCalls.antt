@@ -4,13 +4,13 @@
 use Rattle.std.specs.Prelude.{◌≡◌, ◌==◌, ℕ, ℤ, [], ◌∷◌, ◌++◌, List, Option, None, Some, Result, if◌then◌else◌, IfErr, OnErr, OnOk}
 use Rattle.std.specs.Option.{option_map}
 use Rattle.sat_rules.specs.Clauses.{has}
-use Rattle.handle_parts.specs.Numbers.{lits_of}
-use Rattle.session_handle.specs.Answers.{cause_of, clause_of, status_of}
-use Rattle.session_handle.specs.Causes.{IsFault, Rejection, begin_cause, delete_cause, derive_cause, fails_cause, give_cause, satisfies_cause}
-use Rattle.session_handle.specs.Held.{given_to, named_to, state_of}
-use Rattle.session_handle.specs.declared.answer.SessionAnswer.{SessionAnswer}
-use Rattle.session_handle.specs.declared.fault.HandleFault.{HandleFault}
-use Rattle.session_handle.specs.declared.session.Session.{Session}
+use Rattle.handles.specs.Numbers.{lits_of}
+use Rattle.handles.specs.SessionAnswers.{cause_of, clause_of, status_of}
+use Rattle.handles.specs.SessionCauses.{IsFault, Rejection, begin_cause, delete_cause, derive_cause, fails_cause, give_cause, satisfies_cause}
+use Rattle.handles.specs.SessionHeld.{given_to, named_to, state_of}
+use Rattle.handles.specs.declared.session_answer.SessionAnswer.{SessionAnswer}
+use Rattle.handles.specs.declared.session_fault.HandleFault.{HandleFault}
+use Rattle.handles.specs.declared.session.Session.{Session}
 
 -- accepted, or the fault that ended the call
 abbrev pub Outcome : Type 0

@@ -6,13 +6,13 @@ ghost use Rattle.checker_rules.specs.Step as rules;
 ghost use Rattle.checker_rules.specs.Steps.{new_state};
 ghost use Rattle.checker_parts.specs.Answers.{IsCovered, IsFold};
 ghost use Rattle.checker_parts.specs.Models.{Proves, Refutes};
-ghost use Rattle.checker_handle.specs.Held.{state_of};
-ghost use Rattle.checker_handle.specs.States.{shows_unsat};
-ghost use Rattle.checker_handle.specs.Steps.{kind_of, step_of};
-ghost use Rattle.handle_parts.specs.Numbers.{lits_of};
+ghost use Rattle.handles.specs.CheckerHeld.{state_of};
+ghost use Rattle.handles.specs.CheckerStates.{shows_unsat};
+ghost use Rattle.handles.specs.CheckerSteps.{kind_of, step_of};
+ghost use Rattle.handles.specs.Numbers.{lits_of};
 ghost use Rattle.c_library.specs.CheckerCalls.{IsAdd, IsAnswer, IsBegun, IsChecked, IsUnknownKind, Outcome};
 
-use checker_handle::{CallFault, CheckerAnswer, CheckerHandle, StepKind};
+use handles::{CallFault, CheckerAnswer, CheckerHandle, StepKind};
 use std::alloc::Global;
 
 /// Begins a checker that stores nothing, if there is none.

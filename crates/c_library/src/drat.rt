@@ -1,7 +1,7 @@
 //! DRAT, DPR, FRAT and LPR proofs.
 ghost use Rattle.std.specs.Prelude.{◌≡◌, ◌≢◌, ◌<◌, ◌≤◌, ℕ, true, false, [], IfOk, IfSome, IsSomeAnd, List, Ok, Result, Some};
 ghost use Rattle.sat_formula.specs.Refuted.{IsRefuted};
-ghost use Rattle.piece_runs.specs.Texts.{OfFormula};
+ghost use Rattle.verdicts.specs.Texts.{OfFormula};
 ghost use Rattle.drat_check.specs.Runs.{IsCheckRun};
 ghost use Rattle.c_library.specs.DratCalls.{PlacesCore, PlacesLrat, format_of};
 ghost use Rattle.c_library.specs.Rooms.{IsNothing, IsPlaced};

@@ -1,11 +1,11 @@
 //! Sessions of queries, each answer of which is checked as it comes.
 ghost use Rattle.std.specs.Prelude.{◌≡◌, ◌∷◌, ◌++◌, ℕ, List, [], None, Some};
-ghost use Rattle.session_rules.specs.Sessions.{Fails, Satisfies};
-ghost use Rattle.handle_parts.specs.Numbers.{lits_of};
-ghost use Rattle.session_handle.specs.Held.{given_to, state_of};
+ghost use Rattle.refutation_rules.specs.Sessions.{Fails, Satisfies};
+ghost use Rattle.handles.specs.Numbers.{lits_of};
+ghost use Rattle.handles.specs.SessionHeld.{given_to, state_of};
 ghost use Rattle.c_library.specs.SessionCalls.{IsAnswer, IsBegin, IsDelete, IsDerive, IsFails, IsGive, IsSatisfies, Outcome};
 
-use session_handle::{Session, SessionAnswer};
+use handles::{Session, SessionAnswer};
 use std::alloc::Global;
 
 /// Begins a session without clauses, if there is none.

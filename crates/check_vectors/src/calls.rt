@@ -12,12 +12,12 @@
 //! - `count BYTES : CLAUSES`: how many steps of a proof, bytes in hexadecimal, are delivered to a
 //!   processor, for such a formula.
 use crate::answers::{answer, text_answer};
+use crate::counting::count_steps;
 use crate::registered::Checker;
 use crate::reports::{logged, said, shown};
 use crate::steps::Step;
 use crate::texts::Text;
 use crate::words::{bytes, first_word, formula, lits};
-use example_processors::counting::count_steps;
 use log::sink::Discard;
 use std::alloc::Global;
 use std::test::Fail;

@@ -1,10 +1,10 @@
 //! Processors and transcripts of the kinds that scripts name, as one type each.
 ghost use Rattle.std.specs.Prelude.{⊤};
 
+use crate::boxes::{Faulty, StepList, Tally};
 use anyhow::Error;
 use checker_parts::processor::{CheckerData, ProofProcessor, ProofTranscriptProcessor};
 use checker_parts::step::{CheckedProofStep, ProofTranscriptStep};
-use example_processors::boxes::{Faulty, StepList, Tally};
 use sat_hints::LratWriter;
 
 /// A processor of a kind that scripts name.

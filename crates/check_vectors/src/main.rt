@@ -7,8 +7,11 @@
 #![tactic(auto)]
 
 mod answers;
+mod boxes;
 mod calls;
+mod counting;
 mod cuts;
+mod lines;
 mod listeners;
 mod parts;
 mod registered;

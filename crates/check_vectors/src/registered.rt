@@ -1,10 +1,10 @@
 //! Processors and transcripts of a checker: how they are registered, and what they show.
 use crate::answers::answer;
+use crate::boxes::{Faulty, StepList, Tally};
 use crate::listeners::{Processor, Transcript};
 use crate::words::first_word;
 use checker_parts::processor::{ProofProcessor, ProofTranscriptProcessor};
 use checker_parts::step::ProofTranscriptStep;
-use example_processors::boxes::{Faulty, StepList, Tally};
 use sat_hints::LratWriter;
 use std::alloc::Global;
 use std::test::Fail;

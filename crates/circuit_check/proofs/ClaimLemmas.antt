@@ -1,7 +1,7 @@
 -- What a refuted formula says of the texts of its circuits.
 use Rattle.std.proofs.Common.{◌≡◌, ℕ, ◌+◌, ◌*◌, List, ◌++◌, Option, Some, Result, Ok, Err, ap, sym, ◌∙◌}
 use Rattle.std.specs.Prelude.{IfOk, OnOk}
-use Rattle.cube_rules.specs.Cubes.{IsRefuted}
+use Rattle.refutation_rules.specs.Cubes.{IsRefuted}
 use Rattle.circuit_rules.specs.Checks.{never_clauses, same_clauses}
 use Rattle.circuit_rules.specs.Circuits.{Gate}
 use Rattle.circuit_rules.specs.Safety.{IsSafe, bad_clauses, first_clauses, stay_clauses}

@@ -1,7 +1,7 @@
 -- Faults that a run hands on, and what stands after the verdict on a proof.
 use Rattle.std.proofs.Common.{◌≡◌, inl, inr, ℕ, true, List, Option, None, Result, Ok, Err, refl, ap, sym, subst}
 use Rattle.std.specs.Prelude.{IfOk}
-use Rattle.cube_rules.specs.Cubes.{IsRefuted}
+use Rattle.refutation_rules.specs.Cubes.{IsRefuted}
 use Rattle.circuit_clauses.specs.Causes.{IsCause, fits_part, part_cause, unless}
 use Rattle.circuit_clauses.specs.Machines.{part_clauses}
 use Rattle.circuit_clauses.specs.declared.fault.ClausesFault.{ClausesFault}

@@ -8,7 +8,7 @@
 use Rattle.std.specs.Prelude.{◌≡◌, ℕ, true, List, [], Option, None, length}
 use Rattle.std.specs.Io.KnownBytes.{Appends}
 use Rattle.sat_output.specs.FormulaTexts.{formula_text}
-use Rattle.cube_rules.specs.Cubes.{IsRefuted}
+use Rattle.refutation_rules.specs.Cubes.{IsRefuted}
 use Rattle.circuit_rules.specs.Checks.{AreSame, IsNever}
 use Rattle.circuit_rules.specs.Safety.{IsSafe}
 use Rattle.circuit_text.specs.Aigers.{Says, outcome_of}

@@ -9,7 +9,7 @@
 use Rattle.std.specs.Prelude.{◌≡◌, ◌⊎◌, ℕ, List, Option, Result, Ok, Err}
 use Rattle.whole_writes.specs.Beginnings.{AppendsBeginning}
 use Rattle.sat_output.specs.FormulaTexts.{formula_text}
-use Rattle.cube_rules.specs.Cubes.{IsRefuted}
+use Rattle.refutation_rules.specs.Cubes.{IsRefuted}
 use Rattle.circuit_clauses.specs.Causes.{IsCause, part_cause}
 use Rattle.circuit_clauses.specs.Machines.{part_clauses}
 use Rattle.circuit_clauses.specs.declared.fault.ClausesFault.{ClausesFault}

@@ -6,7 +6,7 @@ ghost use Rattle.circuit_check.specs.Reads.{FailsNever, FailsSame};
 ghost use Rattle.circuit_check.specs.Runs.{BeginsClaim, BeginsText, IsClaimRun, IsSilent, IsUnmade, IsUnwritten, IsWritten};
 ghost use Rattle.circuit_check.specs.Verdicts.{claim_line};
 ghost use Rattle.circuit_check.specs.declared.line.Claim.TheVariants as claims;
-ghost use Rattle.cube_rules.specs.Cubes.{IsRefuted};
+ghost use Rattle.refutation_rules.specs.Cubes.{IsRefuted};
 ghost use Rattle.drat_check.specs.Runs.{IsProofRun};
 ghost use Rattle.sat_output.specs.FormulaTexts.{formula_text};
 ghost use Rattle.verdicts.specs.declared.verdict.Verdict.TheVariants.{Verified};

@@ -6,7 +6,7 @@ ghost use Rattle.circuit_check.specs.Runs.{AreUnmade, BeginsSafe, IsFaultOf, IsP
 ghost use Rattle.circuit_check.specs.Verdicts.{claim_line};
 ghost use Rattle.circuit_check.specs.declared.line.Claim.TheVariants as claims;
 ghost use Rattle.circuit_clauses.specs.Machines.{part_clauses};
-ghost use Rattle.cube_rules.specs.Cubes.{IsRefuted};
+ghost use Rattle.refutation_rules.specs.Cubes.{IsRefuted};
 ghost use Rattle.verdicts.specs.declared.verdict.Verdict.TheVariants.{Verified};
 
 use crate::fault::CircuitFault;

@@ -4,7 +4,7 @@
 --     IsInduction c c' i      a machine and an invariant, with places of their own
 use Rattle.std.specs.Prelude.{◌≡◌, ℕ, suc, ◌+◌, ◌*◌, Bool, ◌&&◌, nat_lt, List, [], ◌∷◌, ◌++◌, map, length}
 use Rattle.sat_rules.specs.Clauses.{negate, var_of}
-use Rattle.cube_rules.specs.Cubes.{units_of}
+use Rattle.refutation_rules.specs.Cubes.{units_of}
 use Rattle.circuit_rules.specs.Circuits.{Gate, gates_clauses}
 use Rattle.circuit_rules.specs.Checks.{moved, moved_gate}
 use Rattle.circuit_rules.specs.Safety.{HaveSteps, Latch, Machine, bad_clauses, first_clauses, stay_clauses, step_clauses}

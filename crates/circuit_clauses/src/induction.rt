@@ -1,7 +1,7 @@
 //! A machine and an invariant, and the formulas by which the machine is safe.
 ghost use Rattle.std.specs.Prelude.{◌≡◌, [], ◌∷◌, ◌++◌, length, map, true, None, IfErr, IfOk, OnOk};
 ghost use Rattle.sat_rules.specs.Clauses.{negate};
-ghost use Rattle.cube_rules.specs.Cubes.{units_of};
+ghost use Rattle.refutation_rules.specs.Cubes.{units_of};
 ghost use Rattle.circuit_rules.specs.Safety.{reset_clauses};
 ghost use Rattle.circuit_text.specs.Circuits.{gate_of};
 ghost use Rattle.circuit_clauses.specs.Causes.{IsCause, fits_part, part_cause, safe_cause};

@@ -1,6 +1,6 @@
 //! The clauses of latches.
 ghost use Rattle.std.specs.Prelude.{◌≡◌, ◌+◌, ◌<◌, ◌^◌, [], ◌∷◌, ◌++◌, map, true, OnOk};
-ghost use Rattle.cube_rules.specs.Cubes.{units_of};
+ghost use Rattle.refutation_rules.specs.Cubes.{units_of};
 ghost use Rattle.circuit_rules.specs.Safety.{reset_clause, reset_clauses, step_clauses};
 ghost use Rattle.circuit_text.specs.Circuits.{latch_of};
 ghost use Rattle.circuit_clauses.specs.Causes.{latches_fit};

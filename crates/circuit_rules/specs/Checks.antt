@@ -4,7 +4,7 @@
 use Rattle.std.specs.Prelude.{◌≡◌, ℕ, suc, ◌*◌, ◌+◌, Bool, true, false, if◌then◌else◌, nat_lt, List, [], ◌∷◌, ◌++◌, map, length}
 use Rattle.std.specs.List.{list_any, list_all}
 use Rattle.sat_rules.specs.Clauses.{lit_true, negate, var_of}
-use Rattle.cube_rules.specs.Cubes.{IsRefuted}
+use Rattle.refutation_rules.specs.Cubes.{IsRefuted}
 use Rattle.circuit_rules.specs.Circuits.{Gate, are_ordered, circuit_clauses, gates_clauses, lit_of, simulated}
 
 -- some output is true

@@ -5,7 +5,7 @@
 use Rattle.std.specs.Prelude.{◌≡◌, ℕ, suc, ◌+◌, ◌≤◌, Bool, true, false, ◌&&◌, nat_lt, List, [], ◌∷◌, ◌++◌, map, Option, Some, None}
 use Rattle.std.specs.List.{list_all}
 use Rattle.sat_rules.specs.Clauses.{lit_true, negate, var_of}
-use Rattle.cube_rules.specs.Cubes.{IsRefuted, units_of}
+use Rattle.refutation_rules.specs.Cubes.{IsRefuted, units_of}
 use Rattle.circuit_rules.specs.Circuits.{Gate, are_ordered, circuit_clauses, gates_clauses, lit_of, simulated}
 use Rattle.circuit_rules.specs.Checks.{any_output, gates_below, lits_below, moved, moved_gate}
 

@@ -1,10 +1,9 @@
 -- Bytes of a circuit, one after the other.
-use Rattle.std.proofs.Common.{◌≡◌, ℕ, suc, ◌<◌, arith, List, [], ◌∷◌, ◌++◌, Option, Some, None, Result, Ok, Err, refl, sym, ap, ◌∙◌, append_assoc, subst}
-use Rattle.std.specs.Option.{option_map}
-use Rattle.std.specs.Prelude.{IsErrAnd, unwrap_or}
-use Rattle.std.proofs.lemmas.Result.{err_from_is_err_and}
+use Rattle.std.proofs.Common.{◌≡◌, ℕ, List, [], ◌∷◌, Ok, Err, ap}
 use Rattle.std.specs.Io.KnownBytes.{Consumes, Keeps, IsAtEnd}
-use Rattle.std.proofs.KnownBytes.{Consumes-trans, Consumes-nil}
+use Rattle.sat_formula.specs.Readings.{Known, Leads}
+use Rattle.sat_formula.proofs.Readings.{end_here, ends_all, leads_all}
+use Rattle.sat_formula.proofs.Readings as readings
 use Rattle.circuit_text.specs.declared.circuit.Circuit as read
 use Rattle.circuit_text.specs.declared.fault.AigerKind.{AigerKind}
 use Rattle.circuit_text.specs.declared.fault.Location.{Location}
@@ -12,76 +11,45 @@ use Rattle.circuit_text.specs.declared.fault.Stop.{Stop}
 use Rattle.circuit_text.specs.declared.fault.Stop.TheVariants as stops
 use Rattle.circuit_text.specs.declared.spot.Spot.{Spot}
 use Rattle.circuit_text.specs.Aigers.{Outcome, Faulty, Step, On, Off, step, at_end, outcome_at, outcome_of}
-use Rattle.circuit_text.specs.Circuits.{Circuit, no_circuit}
-use Rattle.circuit_text.specs.Places.{start}
-use Rattle.circuit_text.specs.Reading.{IsOutcome, IsRead, Leads, IsTaken, FailsBy, Ends, fault_of}
-
-abbrev pub Known : Type 0
-Known = Option (List ℕ)
+use Rattle.circuit_text.specs.Circuits.{Circuit}
+use Rattle.circuit_text.specs.Reading.{IsOutcome, IsRead, IsTaken, FailsBy, Ends, fault_of}
 
 -- what a byte did, and the bytes after it
 abbrev goes_on : Step → List ℕ → Outcome
 goes_on d more = elim d [ On c s ↦ outcome_at c s more | Off at kind ↦ Faulty at kind ]
 
--- nothing is taken
-pub leads_nil : (a : Known) → Leads a a no_circuit start
-leads_nil a = record { bytes = []; consumed = Consumes-nil a; same = λ m. refl }
-
 -- a byte leads on
-pub byte_on : (a b c : Known) (so_far : Circuit) (s : Spot) (x : ℕ) (more : Circuit) (next : Spot) → Leads a b so_far s → Consumes b c (x ∷ []) → step so_far s x ≡ On more next
-    → Leads a c more next
+pub byte_on : (a b c : Known) (so_far : Circuit) (s : Spot) (x : ℕ) (more : Circuit) (next : Spot) → Leads a b outcome_of (outcome_at so_far s) → Consumes b c (x ∷ []) →
+    step so_far s x ≡ On more next → Leads a c outcome_of (outcome_at more next)
 unfolding outcome_at
-byte_on a b c so_far s x more next p h e = record {
-  bytes = p.bytes ++ x ∷ [];
-  consumed = Consumes-trans a b c p.bytes (x ∷ []) p.consumed h;
-  same = λ m. ap outcome_of (append_assoc p.bytes (x ∷ []) m) ∙ p.same (x ∷ m) ∙ ap (λ (d : Step). goes_on d m) e;
-}
+byte_on a b c so_far s x more next p h e = readings.byte_on x p h (λ m. ap (λ (d : Step). goes_on d m) e)
 
 -- a byte is a fault
-byte_off : (a b c : Known) (so_far : Circuit) (s : Spot) (x : ℕ) (at : Location) (kind : AigerKind) → Leads a b so_far s → Consumes b c (x ∷ []) → step so_far s x ≡ Off at kind
-    → IsOutcome a (Faulty at kind)
+byte_off : (a b c : Known) (so_far : Circuit) (s : Spot) (x : ℕ) (at : Location) (kind : AigerKind) → Leads a b outcome_of (outcome_at so_far s) → Consumes b c (x ∷ []) →
+    step so_far s x ≡ Off at kind → IsOutcome a (Faulty at kind)
 unfolding outcome_at
-byte_off None b c so_far s x at kind p h e = tt
-byte_off (Some t) None c so_far s x at kind p h e = absurd p.consumed
-byte_off (Some t) (Some y) None so_far s x at kind p h e = absurd h
-byte_off (Some t) (Some y) (Some z) so_far s x at kind p h e =
-    ap outcome_of (p.consumed ∙ ap (λ (l : List ℕ). p.bytes ++ l) h) ∙ p.same (x ∷ z) ∙ ap (λ (d : Step). goes_on d z) e
+byte_off a b c so_far s x at kind p h e = leads_all a c (Faulty at kind) (readings.byte_on x p h (λ m. ap (λ (d : Step). goes_on d m) e))
 
 -- the text ends
-text_ends : (a b c : Known) (so_far : Circuit) (s : Spot) → Leads a b so_far s → Keeps b c → IsAtEnd c → IsOutcome a (at_end so_far s)
+text_ends : (a b c : Known) (so_far : Circuit) (s : Spot) → Leads a b outcome_of (outcome_at so_far s) → Keeps b c → IsAtEnd c → IsOutcome a (at_end so_far s)
 unfolding outcome_at
-text_ends None b c so_far s p k e = tt
-text_ends (Some t) None c so_far s p k e = absurd p.consumed
-text_ends (Some t) (Some y) None so_far s p k e = absurd k
-text_ends (Some t) (Some y) (Some z) so_far s p k e = ap outcome_of (p.consumed ∙ ap (λ (l : List ℕ). p.bytes ++ l) (sym k ∙ e)) ∙ p.same []
+text_ends a b c so_far s p k e = ends_all a c (at_end so_far s) (end_here p k e)
 
 -- ---- what is returned
 
-pub exits : {X E : Type 0} (P : Result X E → Type 0) (r : Result X E) (e : E) → IsErrAnd r (λ d. d ≡ e) → P (Err e) → P r
-exits {E = E} P r e h p = let q = err_from_is_err_and r h in subst P (sym (q.1 ∙ ap (λ (d : E). Err d) q.2)) p
-
 -- a byte was the fault
-pub fails_taken : (a b c : Known) (so_far : Circuit) (s : Spot) (x : ℕ) (circuit : read.Circuit) (e : Stop) → Leads a b so_far s → Consumes b c (x ∷ []) →
+pub fails_taken : (a b c : Known) (so_far : Circuit) (s : Spot) (x : ℕ) (circuit : read.Circuit) (e : Stop) → Leads a b outcome_of (outcome_at so_far s) → Consumes b c (x ∷ []) →
     IsTaken (step so_far s x) circuit (Err e) → FailsBy a (fault_of e)
 fails_taken a b c so_far s x circuit (stops.Wrong at kind) p h t = byte_off a b c so_far s x at kind p h t
 fails_taken a b c so_far s x circuit stops.OutOfMemory p h t = tt
 
 -- the whole text was read
-pub ends_well : (a b c : Known) (so_far : Circuit) (s : Spot) (circuit : read.Circuit) → Leads a b so_far s → Keeps b c → IsAtEnd c →
+pub ends_well : (a b c : Known) (so_far : Circuit) (s : Spot) (circuit : read.Circuit) → Leads a b outcome_of (outcome_at so_far s) → Keeps b c → IsAtEnd c →
     Ends (at_end so_far s) (Ok circuit) → IsRead a circuit
 ends_well a b c so_far s circuit p k e h = rw h at (text_ends a b c so_far s p k e)
 
 -- the end of the text is the fault
-pub ends_ill : (a b c : Known) (so_far : Circuit) (s : Spot) (e : Stop) → Leads a b so_far s → Keeps b c → IsAtEnd c → Ends (at_end so_far s) (Err e)
+pub ends_ill : (a b c : Known) (so_far : Circuit) (s : Spot) (e : Stop) → Leads a b outcome_of (outcome_at so_far s) → Keeps b c → IsAtEnd c → Ends (at_end so_far s) (Err e)
     → FailsBy a (fault_of e)
 ends_ill a b c so_far s (stops.Wrong at kind) p k e h = rw h at (text_ends a b c so_far s p k e)
 ends_ill a b c so_far s stops.OutOfMemory p k e h = tt
-
--- ---- the limit of bytes
-
--- a byte takes one from the limit
-pub room_less : (old new : Option ℕ) (n : ℕ) → old ≡ option_map suc new → old ≡ Some n → (m : ℕ) × (new ≡ Some m) × (n ≡ suc m)
-room_less old new n h e = grind arith
-
-pub room_falls : (old new : Option ℕ) (n : ℕ) → old ≡ option_map suc new → old ≡ Some n → unwrap_or new 0 < unwrap_or old 0
-room_falls old new n h e = grind arith

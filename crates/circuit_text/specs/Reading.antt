@@ -1,26 +1,19 @@
 -- What reading a circuit returns.
 --     IsRead known c      the text says this circuit
 --     FailsBy known fault      why no circuit is returned
-use Rattle.std.specs.Prelude.{◌≡◌, ℕ, List, ◌++◌, Option, Result, Ok, Err, IfSome}
-use Rattle.std.specs.Io.KnownBytes.{Consumes}
+use Rattle.std.specs.Prelude.{◌≡◌, ℕ, List, Option, Result, Ok, Err, IfSome}
 use Rattle.circuit_text.specs.declared.circuit.Circuit as read
 use Rattle.circuit_text.specs.declared.fault.AigerFault.{AigerFault}
 use Rattle.circuit_text.specs.declared.fault.AigerFault.TheVariants as faults
 use Rattle.circuit_text.specs.declared.fault.Stop.{Stop}
 use Rattle.circuit_text.specs.declared.fault.Stop.TheVariants as stops
 use Rattle.circuit_text.specs.declared.spot.Spot.{Spot}
-use Rattle.circuit_text.specs.Aigers.{Outcome, Says, Faulty, Step, On, Off, outcome_of, outcome_at}
-use Rattle.circuit_text.specs.Circuits.{Circuit, circuit_of}
+use Rattle.circuit_text.specs.Aigers.{Outcome, Says, Faulty, Step, On, Off, outcome_of}
+use Rattle.circuit_text.specs.Circuits.{circuit_of}
 
 -- this is what the text says, if it is known
 abbrev pub IsOutcome : Option (List ℕ) → Outcome → Type 0
 IsOutcome known o = IfSome known (λ text. outcome_of text ≡ o)
-
--- From old to new some bytes were taken: whatever follows them, the text says what follows from this spot on.
-pub record Leads (old new : Option (List ℕ)) (c : Circuit) (s : Spot) : Type 0 where
-  pub bytes : List ℕ
-  pub consumed : Consumes old new bytes
-  pub same : (more : List ℕ) → outcome_of (bytes ++ more) ≡ outcome_at c s more
 
 -- the text says this circuit
 abbrev pub IsRead : Option (List ℕ) → read.Circuit → Type 0

@@ -1,9 +1,9 @@
 //! Bytes that are read whole, up to a bound.
+use crate::pieces::Pieces;
 use command::HeldBytes;
 use std::alloc::Global;
 use std::io::{ErrorKind, Read};
 use std::process::Abort;
-use test_streams::Pieces;
 
 /// Bytes, at most how many may come, and whether they are held.
 const ROWS: [(&[u8], u64, bool); 8] = [

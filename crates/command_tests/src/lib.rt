@@ -8,6 +8,8 @@
 #[cfg(test)]
 mod held;
 #[cfg(test)]
+mod pieces;
+#[cfg(test)]
 mod reports;
 #[cfg(test)]
 mod writes;

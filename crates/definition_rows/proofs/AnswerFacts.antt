@@ -2,7 +2,7 @@
 use Rattle.std.proofs.Common.{◌≡◌, ◌==◌, ℕ, Bool, true, false, [], ◌∷◌, refl, arith}
 use Rattle.std.proofs.lemmas.Bool.{false≢true}
 use Rattle.sat_rules.specs.Clauses.{all_true, neg, pos}
-use Rattle.session_rules.specs.Sessions.{lits_true}
+use Rattle.refutation_rules.specs.Sessions.{lits_true}
 use Rattle.definition_rows.specs.AnswerRows.{AnswerRows, one_of_two}
 
 -- what satisfies the clause does not make both literals true

@@ -1,8 +1,8 @@
 -- The rows, by computation.
 use Rattle.std.proofs.Common.{◌∙◌, true, [], ◌∷◌, refl, sym, arith}
 use Rattle.std.proofs.lemmas.Bool.{false≢true}
-use Rattle.cube_rules.specs.Cubes.{IsRefuted}
-use Rattle.piece_rules.specs.Carrying.{Carries}
+use Rattle.refutation_rules.specs.Cubes.{IsRefuted}
+use Rattle.refutation_rules.specs.Carrying.{Carries}
 use Rattle.definition_rows.specs.ChainRows.{ChainRows, both, empty, one}
 
 both_refuted : IsRefuted both

@@ -3,7 +3,7 @@ use Rattle.std.proofs.Common.{true, [], ◌∷◌, ◌++◌, refl, sym, arith}
 use Rattle.std.proofs.lemmas.Bool.{false≢true}
 use Rattle.std.proofs.lemmas.List.Elements.{All-cons, All-nil}
 use Rattle.sat_rules.specs.Clauses.{pos}
-use Rattle.cube_rules.specs.Cubes.{IsRefuted, units_of}
+use Rattle.refutation_rules.specs.Cubes.{IsRefuted, units_of}
 use Rattle.definition_rows.specs.CubeRows.{CubeRows}
 
 pub cube_rows : CubeRows

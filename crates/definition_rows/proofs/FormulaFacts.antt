@@ -8,8 +8,8 @@ use Rattle.sat_formula.specs.declared.fault.DimacsKind.TheVariants.{BadNumber, U
 use Rattle.sat_formula.specs.Lines.{lines_from, outcome_of, tokens_from}
 use Rattle.sat_formula.specs.Outcome.{Ended, Ending, Faulty}
 use Rattle.sat_formula.specs.Refuted.{IsRefuted}
-use Rattle.piece_rules.specs.Carrying.{Carries}
-use Rattle.piece_runs.specs.Texts.{CarriesText}
+use Rattle.refutation_rules.specs.Carrying.{Carries}
+use Rattle.verdicts.specs.Texts.{CarriesText}
 use Rattle.definition_rows.specs.FormulaRows.{FormulaRows}
 
 -- a text says one list of clauses

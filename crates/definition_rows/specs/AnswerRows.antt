@@ -1,10 +1,10 @@
 -- Answers in a session, by DIMACS numbers: what makes one true, and what each part of that excludes.
 use Rattle.std.specs.Prelude.{◌≡◌, ℕ, ◌+◌, false, List, [], ◌∷◌}
 use Rattle.sat_rules.specs.Clauses.{neg, pos}
-use Rattle.session_rules.specs.Copies.{renamed}
-use Rattle.session_rules.specs.Rounds.{Round, all_below}
-use Rattle.session_rules.specs.Sessions.{AllMet, AllTrue, IsTrue, asked, given, satisfiable}
-use Rattle.session_rules.specs.Sessions.{unknown, unsatisfiable}
+use Rattle.refutation_rules.specs.Copies.{renamed}
+use Rattle.refutation_rules.specs.Rounds.{Round, all_below}
+use Rattle.refutation_rules.specs.Sessions.{AllMet, AllTrue, IsTrue, asked, given, satisfiable}
+use Rattle.refutation_rules.specs.Sessions.{unknown, unsatisfiable}
 
 -- -1 -2
 abbrev pub one_of_two : List (List ℕ)

@@ -1,9 +1,9 @@
 -- Lists of clauses that live where a proof was cut, by DIMACS numbers.
 use Rattle.std.specs.Prelude.{ℕ, List, [], ◌∷◌}
 use Rattle.sat_rules.specs.Clauses.{neg, pos}
-use Rattle.cube_rules.specs.Cubes.{IsRefuted}
-use Rattle.piece_rules.specs.Carrying.{Carries}
-use Rattle.piece_rules.specs.Pieces.{Chain, PiecesJoin}
+use Rattle.refutation_rules.specs.Cubes.{IsRefuted}
+use Rattle.refutation_rules.specs.Carrying.{Carries}
+use Rattle.refutation_rules.specs.Pieces.{Chain, PiecesJoin}
 
 -- 1;  1 and -1;  the empty clause
 abbrev pub one : List (List ℕ)

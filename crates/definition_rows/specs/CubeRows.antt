@@ -1,7 +1,7 @@
 -- A formula and a cube, by DIMACS numbers.
 use Rattle.std.specs.Prelude.{◌≡◌, ℕ, List, [], ◌∷◌, ◌++◌, map}
 use Rattle.sat_rules.specs.Clauses.{neg, pos}
-use Rattle.cube_rules.specs.Cubes.{CubesCover, IsRefuted, clause_against, units_of}
+use Rattle.refutation_rules.specs.Cubes.{CubesCover, IsRefuted, clause_against, units_of}
 
 -- 1
 abbrev pub one : List (List ℕ)

@@ -1,7 +1,7 @@
 -- Texts of formulas: which are refuted, and which carry to which.
 use Rattle.std.specs.Prelude.{codes}
 use Rattle.sat_formula.specs.Refuted.{IsRefuted}
-use Rattle.piece_runs.specs.Texts.{CarriesText}
+use Rattle.verdicts.specs.Texts.{CarriesText}
 
 -- one fact a row
 pub record FormulaRows : Type 0 where

@@ -1,14 +1,15 @@
 -- Cores of pieces: what a part of a formula shows, the formula shows; and what is written of a part.
-use Rattle.std.proofs.Common.{◌≡◌, ◌≢◌, ℕ, Bool, true, false, List, [], ◌∷◌, Option, None, Result, Ok, Err, refl, sym, ap, ◌∙◌, subst}
+use Rattle.std.proofs.Common.{◌≡◌, ◌≢◌, ℕ, Bool, true, false, List, [], ◌∷◌, None, Result, Ok, Err, refl, sym, ap, ◌∙◌, subst}
 use Rattle.std.specs.Prelude.{IfOk}
 use Rattle.std.specs.Io.KnownBytes.{Appends}
 use Rattle.std.proofs.lemmas.Bool.{and_from, and_parts, false_from_ne_true, true≢false}
+use Rattle.sat_formula.specs.Readings.{Known}
 use Rattle.sat_rules.specs.Clauses.{all_true, clause_true}
 use Rattle.sat_output.specs.FormulaTexts.{formula_text}
 use Rattle.whole_writes.specs.Beginnings.{AppendsBeginning}
 use Rattle.verdicts.specs.declared.piece.PieceVerdict.{PieceVerdict}
 use Rattle.verdicts.specs.declared.piece.PieceVerdict.TheVariants.{Refuted, Carried, NotCarried}
-use Rattle.piece_runs.specs.Texts.{IsPieceShown}
+use Rattle.verdicts.specs.Texts.{IsPieceShown}
 use Rattle.drat_check.specs.declared.fault.RunFault.TheVariants.{Core, Write}
 use Rattle.drat_check.specs.declared.piece_fault.PieceFault.{PieceFault}
 use Rattle.drat_check.specs.declared.piece_fault.PieceFault.TheVariants.{Run}
@@ -16,9 +17,6 @@ use Rattle.drat_check.specs.Outputs.{BeganCore, IsPartOf, flagged}
 use Rattle.drat_check.specs.PieceCores.{CoreShown, WritesCore}
 use Rattle.drat_check.specs.Pieces.{IsEarlyPiece}
 use Rattle.drat_check.proofs.WrittenCores.{core_none}
-
-abbrev Known : Type 0
-Known = Option (List ℕ)
 
 -- ---- parts
 

@@ -4,6 +4,7 @@ use Rattle.std.proofs.lemmas.Option.{cond_some}
 use Rattle.std.specs.Io.KnownBytes.{Appends, Keeps}
 use Rattle.std.proofs.KnownBytes.{Appends-kept, Appends-nil, Appends-trans, Keeps-refl}
 use Rattle.std.specs.Prelude.{OnErr, OnOk}
+use Rattle.sat_formula.specs.Readings.{Known}
 use Rattle.whole_writes.specs.Beginnings.{AppendsBeginning}
 use Rattle.sat_rules.specs.Named.{Item}
 use Rattle.lrat_rules.specs.Lines.{Line, accepts, after, run, then_run}
@@ -22,9 +23,6 @@ use Rattle.drat_check.specs.declared.fault.RunFault.{RunFault}
 use Rattle.drat_check.specs.declared.fault.RunFault.TheVariants.{Formula, Proof, Lrat, Trim, Core, Write}
 use Rattle.drat_check.specs.declared.outputs.Outputs.{Outputs}
 use Rattle.drat_check.specs.Outputs.{BeganLines, HasWritten, IfWanted, IsLineFault, WritesBefore, WroteProof, bytes_in}
-
-abbrev Known : Type 0
-Known = Option (List ℕ)
 
 -- ---- texts of lines
 

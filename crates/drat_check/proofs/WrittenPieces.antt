@@ -4,13 +4,14 @@ use Rattle.std.specs.Prelude.{IfOk}
 use Rattle.std.specs.Option.{option_map}
 use Rattle.std.specs.Io.KnownBytes.{Appends, Keeps}
 use Rattle.std.proofs.KnownBytes.{Appends-kept, Appends-trans}
-use Rattle.whole_formulas.specs.Lies.{IsLie}
+use Rattle.sat_formula.specs.Lies.{IsLie}
 use Rattle.whole_writes.specs.Beginnings.{AppendsBeginning}
 use Rattle.sat_rules.specs.Named.{NamedBy}
 use Rattle.lrat_rules.specs.Lines.{Hint, Line, adds}
 use Rattle.lrat_rules.specs.Stores.{find, formula_store}
 use Rattle.lrat_checker.specs.Standing.{IsReady}
 use Rattle.lrat_checker.specs.declared.checker.LratChecker.{LratChecker}
+use Rattle.sat_formula.specs.Readings.{Known}
 use Rattle.sat_formula.specs.declared.counts.LyingHeader.{LyingHeader}
 use Rattle.sat_formula.specs.Lines as dimacs
 use Rattle.sat_formula.specs.Outcome.{Ended}
@@ -21,8 +22,8 @@ use Rattle.sat_output.specs.declared.form.LineForm.{LineForm}
 use Rattle.sat_output.specs.declared.form.LineForm.TheVariants.{Text, Binary}
 use Rattle.sat_output.proofs.Beginnings.{begins_nothing, begins_past}
 use Rattle.verdicts.specs.declared.piece.PieceVerdict.{PieceVerdict}
-use Rattle.piece_runs.specs.Texts.{IsPieceShown, OfFormula, OfFormulas}
-use Rattle.piece_runs.proofs.Reading.{of_formulas}
+use Rattle.verdicts.specs.Texts.{IsPieceShown, OfFormula, OfFormulas}
+use Rattle.verdicts.proofs.Reading.{of_formulas}
 use Rattle.drat_check.specs.declared.fault.RunFault.TheVariants.{Formula, Write}
 use Rattle.drat_check.specs.declared.piece_fault.PieceFault.{PieceFault}
 use Rattle.drat_check.specs.declared.piece_fault.PieceFault.TheVariants.{Run, Wanted, Lost}
@@ -30,9 +31,6 @@ use Rattle.drat_check.specs.Outputs.{BeganLines, HasWritten}
 use Rattle.drat_check.specs.PieceCores.{WritesCore, WritesPieceCore}
 use Rattle.drat_check.specs.Pieces.{IsEarlyPiece, IsPieceRun, IsReadPieceRun, TellsPieceLies, WritesEarly, WritesPiece, WritesRead, WritesShown, WrotePiece}
 use Rattle.drat_check.proofs.WrittenLines.{last_of, lines_in-more}
-
-abbrev Known : Type 0
-Known = Option (List ℕ)
 
 -- ---- lines without steps
 

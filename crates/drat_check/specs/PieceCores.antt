@@ -3,7 +3,7 @@
 --     CoreShown, WritesCore, WritesPieceCore      what a run wrote of a core: by its verdict, after two formulas, and after their texts
 use Rattle.std.specs.Prelude.{◌≡◌, ◌⊎◌, ℕ, List, Option, Result, Ok, Err}
 use Rattle.std.specs.Io.KnownBytes.{Appends}
-use Rattle.piece_runs.specs.Texts.{IsPieceShown, OfFormulas}
+use Rattle.verdicts.specs.Texts.{IsPieceShown, OfFormulas}
 use Rattle.sat_output.specs.FormulaTexts.{formula_text}
 use Rattle.whole_writes.specs.Beginnings.{AppendsBeginning}
 use Rattle.verdicts.specs.Pieces.{piece_line}

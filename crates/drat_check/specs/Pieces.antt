@@ -13,13 +13,13 @@ use Rattle.sat_rules.specs.Named.{Item, NamedBy}
 use Rattle.lrat_rules.specs.Lines.{Line, run}
 use Rattle.lrat_rules.specs.Stores.{find, formula_store}
 use Rattle.lrat_checker.specs.declared.checker.LratChecker.{LratChecker}
-use Rattle.piece_runs.specs.Texts.{IsPieceShown, OfFormula, OfFormulas}
+use Rattle.verdicts.specs.Texts.{IsPieceShown, OfFormula, OfFormulas}
 use Rattle.sat_formula.specs.declared.counts.LyingHeader.{LyingHeader}
 use Rattle.sat_formula.specs.Lines as dimacs
 use Rattle.sat_formula.specs.Whole.{FailsAfter}
 use Rattle.sat_output.specs.LineForms.{lines_in}
 use Rattle.sat_output.specs.declared.form.LineForm.{LineForm}
-use Rattle.whole_formulas.specs.Lies.{IsLie}
+use Rattle.sat_formula.specs.Lies.{IsLie}
 use Rattle.whole_writes.specs.Beginnings.{AppendsBeginning}
 use Rattle.verdicts.specs.Pieces.{piece_line}
 use Rattle.verdicts.specs.declared.piece.PieceVerdict.{PieceVerdict}

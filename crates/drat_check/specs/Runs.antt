@@ -9,8 +9,8 @@ use Rattle.std.specs.Option.{option_map}
 use Rattle.sat_formula.specs.declared.counts.LyingHeader.{LyingHeader}
 use Rattle.sat_formula.specs.Lines as dimacs
 use Rattle.sat_formula.specs.Whole.{FailsAfter}
-use Rattle.whole_formulas.specs.Lies.{IsLie}
-use Rattle.piece_runs.specs.Texts.{IsUnsatisfiable, OfFormula}
+use Rattle.sat_formula.specs.Lies.{IsLie}
+use Rattle.verdicts.specs.Texts.{IsUnsatisfiable, OfFormula}
 use Rattle.verdicts.specs.declared.verdict.Verdict.{Verdict}
 use Rattle.verdicts.specs.declared.verdict.Verdict.TheVariants.{Verified, NotVerified}
 use Rattle.drat_check.specs.declared.fault.RunFault.{RunFault}

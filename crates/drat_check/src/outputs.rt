@@ -7,7 +7,7 @@ ghost use Rattle.sat_output.specs.FormulaTexts.{formula_text};
 ghost use Rattle.sat_output.specs.LineForms.{lines_in};
 ghost use Rattle.whole_writes.specs.Beginnings.{AppendsBeginning};
 ghost use Rattle.drat_check.specs.Outputs.{BeganCore, BeganLines, HasWritten, IsLineFault, IsPartOf, WroteCore, WroteProof, bytes_in};
-ghost use Rattle.piece_runs.specs.Texts.{IsUnsatisfiable};
+ghost use Rattle.verdicts.specs.Texts.{IsUnsatisfiable};
 
 use crate::counts::{RunCounts, count_line};
 use crate::fault::{ProofFault, RunFault};

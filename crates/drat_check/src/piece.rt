@@ -3,7 +3,7 @@ ghost use Rattle.std.specs.Prelude.{◌≡◌, ◌≢◌, ℕ, List, Option, Som
 ghost use Rattle.std.specs.Io.KnownBytes.{Appends, Keeps};
 ghost use Rattle.sat_formula.specs.Refuted.{IsRefuted};
 ghost use Rattle.drat_check.specs.Outputs.{bytes_in};
-ghost use Rattle.piece_runs.specs.Texts.{CarriesText, IsPieceShown};
+ghost use Rattle.verdicts.specs.Texts.{CarriesText, IsPieceShown};
 ghost use Rattle.drat_check.specs.PieceCores.{WritesCore, WritesPieceCore};
 ghost use Rattle.drat_check.specs.Pieces.{IsEarlyPiece, IsPieceRun, IsSilentPiece, TellsPieceLies, WritesEarly, WritesPiece};
 ghost use Rattle.verdicts.specs.Pieces.{piece_line};
@@ -19,14 +19,12 @@ use crate::reader::ProofFormat;
 use crate::stored::stored_ids;
 use drat_elaborate::Elaborator;
 use log::Log;
-use piece_runs::MissingClause;
-use sat_formula::{CnfFormula, LyingHeader};
+use sat_formula::{CnfFormula, LyingHeader, read_formula};
 use sat_output::LineForm;
 use std::alloc::Global;
 use std::cell::Cell;
 use std::io::{Read, Write};
-use verdicts::{PieceVerdict, write_piece_line};
-use whole_formulas::read_formula;
+use verdicts::{MissingClause, PieceVerdict, write_piece_line};
 
 /// What a run over a piece writes, counts and reports in addition to its verdict.
 #[derive(Drop)]

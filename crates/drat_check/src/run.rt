@@ -5,7 +5,7 @@ ghost use Rattle.sat_rules.specs.Clauses.{all_true};
 ghost use Rattle.sat_formula.specs.Refuted.{IsRefuted};
 ghost use Rattle.drat_check.specs.Outputs.{WritesBefore, WritesOutputs};
 ghost use Rattle.drat_check.specs.Runs.{HasNoFormula, IsCheckRun, IsEarly, IsProofRun, IsSilent, RunTellsLie};
-ghost use Rattle.piece_runs.specs.Texts.{OfFormula};
+ghost use Rattle.verdicts.specs.Texts.{OfFormula};
 ghost use Rattle.verdicts.specs.Verdicts.{shown_line};
 ghost use Rattle.verdicts.specs.declared.verdict.Verdict.TheVariants.{Verified};
 
@@ -16,11 +16,10 @@ use crate::proof::{elaborate, read_proof};
 use crate::reader::ProofFormat;
 use drat_elaborate::Elaborator;
 use log::Log;
-use sat_formula::{CnfFormula, LyingHeader};
+use sat_formula::{CnfFormula, LyingHeader, read_formula};
 use std::alloc::Global;
 use std::io::{Read, Write};
 use verdicts::{Verdict, write_line};
-use whole_formulas::read_formula;
 
 /// Reads a formula in DIMACS CNF, checks the proof, and writes what `run_proof` does. Returns the
 /// verdict.

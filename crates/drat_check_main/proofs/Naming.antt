@@ -14,7 +14,7 @@ use Rattle.drat_check.specs.declared.piece_fault.PieceFault.{PieceFault}
 use Rattle.drat_check.specs.declared.outputs.Outputs.{Outputs}
 use Rattle.drat_check_main.specs.Named.{GivesAll, GivesSome, GivesTwo, LeavesUnshown, NamesPiece, NamesProof, NamesSome, ThenReceipt, core_name, form_asked, lrat_name, trim_name}
 use Rattle.drat_check_main.specs.Pieces.{KeepsPiece, ShowsLine, ShowsPiece, piece_of}
-use Rattle.piece_runs.specs.Texts.{CarriesText, OfFormula, OfFormulas}
+use Rattle.verdicts.specs.Texts.{CarriesText, OfFormula, OfFormulas}
 use Rattle.receipt_files.specs.Named.{carries_of, refuted_of}
 use Rattle.sat_formula.specs.Refuted.{IsRefuted}
 use Rattle.sat_output.proofs.Beginnings.{begins_whole}

@@ -14,7 +14,7 @@ use Rattle.command.specs.Outputs.{begun, place_of, Gives}
 use Rattle.drat_check.specs.Outputs.{WroteCore, WroteProof}
 use Rattle.drat_check.specs.PieceCores.{CoreShown}
 use Rattle.drat_check.specs.Pieces.{WritesShown}
-use Rattle.piece_runs.specs.Texts.{OfFormulas}
+use Rattle.verdicts.specs.Texts.{OfFormulas}
 use Rattle.receipt_files.specs.Named.{GivesReceipt}
 use Rattle.receipts.specs.declared.receipt.Receipt.{Receipt}
 use Rattle.sat_output.specs.declared.form.LineForm.{LineForm}

@@ -10,7 +10,7 @@ use Rattle.drat_check.specs.declared.fault.RunFault.{RunFault}
 use Rattle.drat_check.specs.declared.piece_fault.PieceFault.{PieceFault}
 use Rattle.drat_check.specs.declared.piece_fault.PieceFault.TheVariants.{Run}
 use Rattle.drat_check_main.specs.Named.{ThenReceipt}
-use Rattle.piece_runs.specs.Texts.{CarriesText}
+use Rattle.verdicts.specs.Texts.{CarriesText}
 use Rattle.receipt_files.specs.Named.{carries_of, refuted_of}
 use Rattle.sat_formula.specs.Refuted.{IsRefuted}
 use Rattle.verdicts.specs.Pieces.{piece_line}

@@ -20,7 +20,7 @@ ghost use Rattle.command.specs.Inputs.{bytes_named};
 ghost use Rattle.command.specs.Outputs.{begun};
 ghost use Rattle.drat_check_main.specs.Named.{GivesAll, NamesPiece, NamesProof, NamesSome, ThenReceipt, core_name, lrat_name, trim_name};
 ghost use Rattle.drat_check_main.specs.Pieces.{KeepsPiece, ShowsLine, ShowsPiece};
-ghost use Rattle.piece_runs.specs.Texts.{OfFormula};
+ghost use Rattle.verdicts.specs.Texts.{OfFormula};
 ghost use Rattle.receipt_files.specs.Named.{refuted_of};
 ghost use Rattle.sat_formula.specs.Refuted.{IsRefuted};
 ghost use Rattle.verdicts.specs.Verdicts.{shown_line};

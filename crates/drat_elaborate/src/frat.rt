@@ -5,7 +5,7 @@ use crate::fault::ElaborateFault;
 use crate::forward::Forward;
 use crate::lookup::{Lookup, Reasons};
 use crate::steps::Step;
-use frat_text::{FratAction, FratHint, FratStep, Renaming};
+use drat_text::{FratAction, FratHint, FratStep, Renaming};
 use sat_formula::Lit;
 
 impl Elaborator {

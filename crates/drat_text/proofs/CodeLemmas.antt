@@ -1,5 +1,5 @@
 -- The bytes of a binary number.
-use Rattle.std.proofs.Common.{◌≡◌, ℕ, ◌+◌, ◌-◌, ◌*◌, ◌^◌, ◌≤◌, ◌<◌, List, [], ◌∷◌, ◌++◌, Result, Ok, Err, refl, sym, ap, ◌∙◌, arith}
+use Rattle.std.proofs.Common.{◌≡◌, ℕ, ◌+◌, ◌-◌, ◌*◌, ◌^◌, ◌≤◌, ◌<◌, List, [], ◌∷◌, Result, Ok, Err, refl, sym, ap, ◌∙◌, arith}
 use Rattle.std.specs.Prelude.{◌%◌}
 use Rattle.std.proofs.lemmas.Bool.{eq-eqb, le-ltb, lt-ltb, ne_eqb}
 use Rattle.std.specs.Io.KnownBytes.{Consumes}
@@ -12,8 +12,9 @@ use Rattle.drat_text.specs.Codes.{Code, Partial, TooLong, Whole, code_after, cod
 use Rattle.drat_text.specs.Places.{Rules, IsLastWeight, fifth_last, ninth_last, Within, InNumber, Groups, code_does}
 use Rattle.drat_text.specs.Proofs.{outcome_at}
 use Rattle.drat_text.specs.Reading.{FailsCode, ReadsCode, TakesCode, cut_off, goes_on, too_long}
-use Rattle.drat_text.specs.Steps.{Outcome}
+use Rattle.drat_text.specs.Steps.{Outcome, Faulty}
 use Rattle.drat_text.specs.Taking.{Fails, Leads, TakesWithin, by_byte, by_end}
+use Rattle.sat_formula.proofs.Readings.{ends_by, leads_by}
 use Rattle.drat_text.proofs.Takings.{Known, end_here, kept_on, leads_as, leads_on}
 
 -- the weights of a number's bytes: the last one's, and before each the one that is 128 times smaller
@@ -124,10 +125,6 @@ module _ {O : Type 0} (last : ℕ) (says : Code → List ℕ → O) (step : (v w
   partial_says v w bytes = code_says (Partial v w) bytes
 
 -- what numbers do, by what they say
-leads_by : {C O : Type 0} {a b : Known} {f g : List ℕ → C} {h k : List ℕ → O} (does : C → O) → ((m : List ℕ) → h m ≡ does (f m)) → Leads a b f g → ((m : List ℕ) → does (g m) ≡ k m) →
-    Leads a b h k
-leads_by does e p q = record { taken = p.taken; consumed = p.consumed; same = λ m. e (p.taken ++ m) ∙ ap does (p.same m) ∙ q m }
-
 module _ {S T : Type 0} (r : Rules S T) (slot : S) where
   abbrev says : Code → List ℕ → Outcome T
   says code more = goes_on r Binary (code_does r slot code) more
@@ -144,10 +141,10 @@ module _ {S T : Type 0} (r : Rules S T) (slot : S) where
   begun_read [] = groups_read 0 1 []
   begun_read (b ∷ bs) = groups_read 0 1 (b ∷ bs)
 
-  fails_read : {a b : Known} {kind : DratKind} → FailsCode r.last_weight a b kind → Fails a b (outcome_at r Binary (Within slot)) kind
+  fails_read : {a b : Known} {kind : DratKind} → FailsCode r.last_weight a b kind → Fails a b (outcome_at r Binary (Within slot)) ([], Faulty kind)
   unfolding outcome_at
   fails_read (too_long p) = by_byte (leads_by does begun_read p (λ m. refl))
-  fails_read (cut_off v w p) = by_end (record { taken = p.taken; consumed = p.consumed; at_end = p.at_end; same = begun_read p.taken ∙ ap does p.same })
+  fails_read (cut_off v w p) = by_end (ends_by does begun_read p)
 
   -- a number does what its value does
   pub code_read : {R : Type 0} (a b : Known) (last : ℕ) (source : Source R) (n : Result ℕ Stop) → last ≡ r.last_weight → TakesCode last a b source n →

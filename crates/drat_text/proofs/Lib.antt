@@ -5,3 +5,5 @@ pub mod FrontLemmas
 pub mod LookLemmas
 pub mod ReaderLemmas
 pub mod RowsFacts
+pub mod FratTellLemmas
+pub mod FratRowsFacts

@@ -65,7 +65,7 @@ module _ {S T F : Type 0} (r : Rules S T) (step : F → T) (slot : S) (n : After
   going last e s t = on_as r Text {d = n} {e = Goes (Within slot)} (rw e at s) t
 
   -- and the input has ended
-  pub unfinished : {a b : Known} {f : List ℕ → Outcome T} (last : Bool) → last ≡ true → Says r n last a b f → TakesNumber step slot n (Ok None) → Fails a b f Unfinished
+  pub unfinished : {a b : Known} {f : List ℕ → Outcome T} (last : Bool) → last ≡ true → Says r n last a b f → TakesNumber step slot n (Ok None) → Fails a b f ([], Faulty Unfinished)
   unfinished last e s t = by_end (ends_as (rw e at s) (ap last_said t))
 
   -- a step ends

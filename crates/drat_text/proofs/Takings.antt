@@ -1,11 +1,9 @@
 -- Bytes, one after the other.
-use Rattle.std.proofs.Common.{◌≡◌, ℕ, ◌+◌, ◌≤◌, ◌<◌, List, [], ◌∷◌, ◌++◌, Option, None, Some, Result, Err, Bool, true, false, refl, sym, ap, ◌∙◌, append_assoc, append-nil, length, take, drop, get_or, drop-cons, add-one, arith, ◌⊎◌, inl, inr}
-use Rattle.std.specs.Prelude.{IsErrAnd, nat_lt, if◌then◌else◌}
+use Rattle.std.proofs.Common.{◌≡◌, ℕ, ◌+◌, ◌≤◌, ◌<◌, List, [], ◌∷◌, ◌++◌, None, Some, Err, Bool, true, false, refl, sym, ap, ◌∙◌, length, take, drop, get_or, drop-cons, add-one, arith, ◌⊎◌, inl, inr}
+use Rattle.std.specs.Prelude.{nat_lt, if◌then◌else◌}
 use Rattle.std.proofs.lemmas.Bool.{cases_Bool, ltb-false}
 use Rattle.std.proofs.lemmas.List.{append_cancel_right, drop_all, take-append-drop}
-use Rattle.std.proofs.lemmas.Result.{err_from_is_err_and}
 use Rattle.std.specs.Io.KnownBytes.{Consumes, Keeps, IsAtEnd, prepend_known}
-use Rattle.std.proofs.KnownBytes.{Consumes-trans, Consumes-nil, Consumes-kept}
 use Rattle.sat_formula.specs.declared.source.NoByte.{NoByte}
 use Rattle.sat_formula.specs.declared.source.NoByte.TheVariants as reasons
 use Rattle.sat_formula.specs.declared.source.Source.{Source}
@@ -20,53 +18,11 @@ use Rattle.drat_text.specs.Places.{Rules, Place, After, Goes, Stops, after, at_e
 use Rattle.drat_text.specs.Proofs.{outcome_at}
 use Rattle.drat_text.specs.Reading.{goes_on, GivesStep}
 use Rattle.drat_text.specs.Steps.{Outcome, Ended, Faulty}
-use Rattle.drat_text.specs.Taking.{Takes, TakesWithin, Leads, EndsAll, Fails, by_byte, by_end, Stopped}
-
-abbrev pub Known : Type 0
-Known = Option (List ℕ)
-
--- ---- what is said of bytes
-
-module _ {O : Type 0} where
-  -- nothing is taken
-  pub leads_nil : (a : Known) (f : List ℕ → O) → Leads a a f f
-  leads_nil a f = record { taken = []; consumed = Consumes-nil a; same = λ m. refl }
-
-  pub leads_on : {a b c : Known} {f g h : List ℕ → O} → Leads a b f g → Leads b c g h → Leads a c f h
-  leads_on {a} {b} {c} {f} p q = record {
-    taken = p.taken ++ q.taken;
-    consumed = Consumes-trans a b c p.taken q.taken p.consumed q.consumed;
-    same = λ m. ap f (append_assoc p.taken q.taken m) ∙ p.same (q.taken ++ m) ∙ q.same m;
-  }
-
-  pub leads_as : {a b : Known} {f g h : List ℕ → O} → Leads a b f g → ((m : List ℕ) → g m ≡ h m) → Leads a b f h
-  leads_as p e = record { taken = p.taken; consumed = p.consumed; same = λ m. p.same m ∙ e m }
-
-  pub kept_on : {a b c : Known} {f g : List ℕ → O} → Leads a b f g → Keeps b c → Leads a c f g
-  kept_on {a} {b} {c} p k = record { taken = p.taken; consumed = Consumes-kept a b c p.taken p.consumed k; same = p.same }
-
-  pub ends_on : {a b c : Known} {f g : List ℕ → O} {o : O} → Leads a b f g → EndsAll b c g o → EndsAll a c f o
-  ends_on {a} {b} {c} p q = record {
-    taken = p.taken ++ q.taken;
-    consumed = Consumes-trans a b c p.taken q.taken p.consumed q.consumed;
-    at_end = q.at_end;
-    same = p.same q.taken ∙ q.same;
-  }
-
-  pub ends_as : {a b : Known} {f : List ℕ → O} {o u : O} → EndsAll a b f o → o ≡ u → EndsAll a b f u
-  ends_as p e = record { taken = p.taken; consumed = p.consumed; at_end = p.at_end; same = p.same ∙ e }
-
-  pub end_here : {a b c : Known} {f g : List ℕ → O} → Leads a b f g → Keeps b c → IsAtEnd c → EndsAll a c f (g [])
-  end_here {a} {b} {c} {f} p k e = record {
-    taken = p.taken;
-    consumed = Consumes-kept a b c p.taken p.consumed k;
-    at_end = e;
-    same = ap f (sym (append-nil p.taken)) ∙ p.same [];
-  }
-
-pub fails_on : {T : Type 0} {a b c : Known} {f g : List ℕ → Outcome T} {kind : DratKind} → Leads a b f g → Fails b c g kind → Fails a c f kind
-fails_on p (by_byte q) = by_byte (leads_on p q)
-fails_on p (by_end q) = by_end (ends_on p q)
+use Rattle.drat_text.specs.Taking.{Takes, TakesWithin, Leads, EndsAll, Fails, by_byte, by_end, StopsBy, Stopped}
+use Rattle.sat_formula.proofs.Readings as readings
+pub use Rattle.sat_formula.specs.Readings.{Known}
+pub use Rattle.sat_formula.proofs.Exits.{error_is}
+pub use Rattle.sat_formula.proofs.Readings.{leads_nil, leads_on, leads_as, kept_on, ends_on, ends_as, end_here, fails_on}
 
 -- ---- a source, with nothing in front of it
 
@@ -113,20 +69,21 @@ ahead_leads ahead front count e p taken =
     let same : p.taken ≡ take count ahead = append_cancel_right p.taken (take count ahead) (drop count ahead) (sym p.consumed ∙ sym (take-append-drop count ahead)) in
     record { taken = p.taken; consumed = rw (same, e) taken; same = p.same }
 
--- ---- the exit of a `?`
+-- ---- a stop
 
-pub error_is : {X E : Type 0} (r : Result X E) (e : E) → IsErrAnd r (λ d. d ≡ e) → r ≡ Err e
-error_is r e h = let q = err_from_is_err_and r h in q.1 ∙ ap (λ d. Err d) q.2
+pub stops_on : {R P O : Type 0} (at : P → List ℕ → O) (ended : O) (faulty : DratKind → O) {a b : Known} (c : Known) {f g : List ℕ → O} (source : Source R) (stop : Stop) →
+    Leads a b f g → StopsBy at ended faulty b c g source stop → StopsBy at ended faulty a c f source stop
+stops_on at ended faulty c source stops.End p q = ends_on p q
+stops_on at ended faulty c source stops.Read p q = (record { place = q.0.place; leads = leads_on p q.0.leads }, q.1)
+stops_on at ended faulty c source (stops.Wrong kind) p q = fails_on p q
+stops_on at ended faulty c source stops.OutOfMemory p q = tt
 
 -- ---- by the rules of a proof
 
 module _ {S T : Type 0} (r : Rules S T) (format : Format) where
   pub stopped_on : {R : Type 0} {a b : Known} (c : Known) {f g : List ℕ → Outcome T} (source : Source R) (stop : Stop) →
       Leads a b f g → Stopped r format b c g source stop → Stopped r format a c f source stop
-  stopped_on c source stops.End p q = ends_on p q
-  stopped_on c source stops.Read p q = (record { place = q.0.place; leads = leads_on p q.0.leads }, q.1)
-  stopped_on c source (stops.Wrong kind) p q = fails_on p q
-  stopped_on c source stops.OutOfMemory p q = tt
+  stopped_on c source stop p q = stops_on (outcome_at r format) ([], Ended) (λ kind. ([], Faulty kind)) c source stop p q
 
   pub given_on : {a b : Known} (c : Known) {f g : List ℕ → Outcome T} (step : T) (last : Bool) → Leads a b f g → GivesStep r format b c g step last → GivesStep r format a c f step last
   given_on c step false p q = leads_on p q
@@ -141,7 +98,7 @@ module _ {S T : Type 0} (r : Rules S T) (format : Format) where
 
   pub byte_on : {a b c : Known} {f : List ℕ → Outcome T} (p : Place S) (x : ℕ) {d : After S T} → Leads a b f (outcome_at r format p) → Consumes b c (x ∷ []) → after r format p x ≡ d
       → Leads a c f (goes_on r format d)
-  byte_on p x l h e = leads_on l (record { taken = x ∷ []; consumed = h; same = front_byte p x e })
+  byte_on p x l h e = readings.byte_on x l h (front_byte p x e)
 
   pub byte_before : {a b c : Known} {f : List ℕ → Outcome T} (p : Place S) (x : ℕ) → Leads a b f (outcome_at r format p) → Consumes b c (x ∷ []) →
       Leads a c f (λ m. outcome_at r format p (x ∷ m))
@@ -152,7 +109,7 @@ module _ {S T : Type 0} (r : Rules S T) (format : Format) where
   byte_goes p {q} x l h e = byte_on p x {d = Goes q} l h e
 
   pub byte_stops : {a b c : Known} {f : List ℕ → Outcome T} (p : Place S) {kind : DratKind} (x : ℕ) → Leads a b f (outcome_at r format p) → Consumes b c (x ∷ []) → after r format p x ≡ Stops kind →
-      Fails a c f kind
+      Fails a c f ([], Faulty kind)
   byte_stops p {kind} x l h e = by_byte (byte_on p x {d = Stops kind} l h e)
 
   -- what comes next is known

@@ -11,3 +11,11 @@ pub mod NextStep
 pub mod DratRules
 pub mod DratSteps
 pub mod Rows
+pub mod FratSlots
+pub mod FratProofs
+pub mod FratBytes
+pub mod FratRules
+pub mod FratDrafts
+pub mod FratTelling
+pub mod FratSteps
+pub mod FratRows

@@ -16,8 +16,8 @@ use Rattle.drat_text.specs.declared.fault.Stop.TheVariants as stops
 use Rattle.drat_text.specs.declared.reader.StepReader.{StepReader}
 use Rattle.drat_text.specs.declared.step.StepEnd.{StepEnd}
 use Rattle.drat_text.specs.Places.{Rules}
-use Rattle.drat_text.specs.Proofs.{format_of, outcome_in}
-use Rattle.drat_text.specs.Steps.{Ended, Outcome}
+use Rattle.drat_text.specs.Proofs.{format_of, outcome_at, outcome_in}
+use Rattle.drat_text.specs.Steps.{Ended, Faulty, Outcome}
 use Rattle.drat_text.specs.Reading.{GivesStep, ReadsStep}
 use Rattle.drat_text.specs.Taking.{unread_bytes, room_in, source_of, EndsAll, Breaks, Fails}
 
@@ -108,11 +108,12 @@ module _ {G R S T : Type 0} (rules : Rules S T) (remaining : R → Option (List 
       × TellsFormat old new
       × (steps_given new ≡ steps_given old) × (has_ended new ≡ true)
   Answers seen old new (Err (faults.Read e)) =
-      Breaks rules (format_now new) (bytes_left remaining old) (bytes_left remaining new)
-      (left_to_say new)
+      Breaks (outcome_at rules (format_now new)) (bytes_left remaining old)
+      (bytes_left remaining new) (left_to_say new)
       × IsReadError new e × (steps_given new ≡ steps_given old) × (has_ended new ≡ true)
   Answers seen old new (Err (faults.Step number kind)) =
-      Fails (bytes_left remaining old) (bytes_left remaining new) (left_to_say new) kind
+      Fails (bytes_left remaining old) (bytes_left remaining new) (left_to_say new)
+      ([], Faulty kind)
       × TellsFormat old new
       × (number ≡ next_line (steps_given old))
       × (steps_given new ≡ steps_given old) × (has_ended new ≡ true)

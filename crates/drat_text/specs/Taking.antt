@@ -1,7 +1,8 @@
 -- What was taken from a reader's bytes, and what it says of them.
-use Rattle.std.specs.Prelude.{◌≡◌, ℕ, ◌+◌, ◌-◌, List, [], ◌∷◌, ◌++◌, Option, unwrap_or, length, drop, nat_lt, if◌then◌else◌, slice_get, Result, Ok, Err, IfSome}
+use Rattle.std.specs.Prelude.{◌≡◌, ℕ, ◌+◌, ◌-◌, List, [], ◌∷◌, Option, unwrap_or, length, drop, nat_lt, if◌then◌else◌, slice_get, Result, Ok, Err, IfSome}
 use Rattle.std.specs.Io.KnownBytes.{Consumes, Keeps, IsAtEnd, prepend_known}
 use Rattle.sat_formula.specs.declared.source.Source.{Source}
+pub use Rattle.sat_formula.specs.Readings.{Leads, EndsAll, Breaks, Fails, by_byte, by_end}
 use Rattle.sat_formula.specs.Source.{ahead_of, unread, room_of, IsStopped}
 use Rattle.drat_text.specs.declared.bytes.Bytes.{Bytes}
 use Rattle.drat_text.specs.declared.bytes.Format.{Format}
@@ -9,7 +10,7 @@ use Rattle.drat_text.specs.declared.fault.DratKind.{DratKind}
 use Rattle.drat_text.specs.declared.fault.DratKind.TheVariants.{Unfinished}
 use Rattle.drat_text.specs.declared.fault.Stop.{Stop}
 use Rattle.drat_text.specs.declared.fault.Stop.TheVariants as stops
-use Rattle.drat_text.specs.Places.{Place, Rules}
+use Rattle.drat_text.specs.Places.{Rules}
 use Rattle.drat_text.specs.Proofs.{outcome_at}
 use Rattle.drat_text.specs.Steps.{Outcome, Ended, Faulty}
 
@@ -71,35 +72,16 @@ Peeks old new place source (Err stops.Read) = Keeps old new × IsStopped source
 Peeks old new place source (Err (stops.Wrong kind)) = ⊥
 Peeks old new place source (Err stops.OutOfMemory) = Unit {0}
 
--- From old to new some bytes were taken, and whatever comes after them, f gives of all what g gives of the rest.
-pub record Leads {O : Type 0} (old new : Option (List ℕ)) (f g : List ℕ → O) : Type 0 where
-  pub taken : List ℕ
-  pub consumed : Consumes old new taken
-  pub same : (more : List ℕ) → f (taken ++ more) ≡ g more
+-- what a stop says, with this source: where the outcome at a place is so, a whole input's end gives this, and a fault gives this
+abbrev pub StopsBy : {R P O : Type 0} → (P → List ℕ → O) → O → (DratKind → O) → Option (List ℕ) →
+    Option (List ℕ) → (List ℕ → O) → Source R → Stop → Type 0
+StopsBy at ended faulty old new f source stops.End = EndsAll old new f ended
+StopsBy at ended faulty old new f source stops.Read = Breaks at old new f × IsStopped source
+StopsBy at ended faulty old new f source (stops.Wrong kind) = Fails old new f (faulty kind)
+StopsBy at ended faulty old new f source stops.OutOfMemory = Unit {0}
 
--- all bytes were taken, and f gives this of them
-pub record EndsAll {O : Type 0} (old new : Option (List ℕ)) (f : List ℕ → O) (o : O) : Type 0 where
-  pub taken : List ℕ
-  pub consumed : Consumes old new taken
-  pub at_end : IsAtEnd new
-  pub same : f taken ≡ o
-
--- a step was begun at most, and neither it nor a fault has ended yet
-pub record Breaks {S T : Type 0} (r : Rules S T) (format : Format) (old new : Option (List ℕ))
-    (f : List ℕ → Outcome T) : Type 0 where
-  pub place : Place S
-  pub leads : Leads old new f (outcome_at r format place)
-
--- a fault comes first: by a byte, whatever comes after it, or where the input ended
-pub data Fails {T : Type 0} (old new : Option (List ℕ)) (f : List ℕ → Outcome T)
-    (kind : DratKind) : Type 0 where
-  by_byte : Leads old new f (λ more. ([], Faulty kind)) → Fails old new f kind
-  by_end : EndsAll old new f ([], Faulty kind) → Fails old new f kind
-
--- what a stop says, with this source
+-- the same by the rules of a proof
 abbrev pub Stopped : {R S T : Type 0} → Rules S T → Format → Option (List ℕ) →
     Option (List ℕ) → (List ℕ → Outcome T) → Source R → Stop → Type 0
-Stopped r format old new f source stops.End = EndsAll old new f ([], Ended)
-Stopped r format old new f source stops.Read = Breaks r format old new f × IsStopped source
-Stopped r format old new f source (stops.Wrong kind) = Fails old new f kind
-Stopped r format old new f source stops.OutOfMemory = Unit {0}
+Stopped r format old new f source stop =
+    StopsBy (outcome_at r format) ([], Ended) (λ kind. ([], Faulty kind)) old new f source stop

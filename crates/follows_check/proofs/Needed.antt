@@ -2,8 +2,8 @@
 use Rattle.std.proofs.Common.{◌≡◌, ◌⊎◌, inl, inr, ℕ, zero, suc, ◌+◌, ◌-◌, ◌<◌, ◌≤◌, Bool, true, false, cond, nat_lt, List, [], ◌∷◌, ◌++◌, length, refl, ap, sym, ◌∙◌, length-append, arith}
 use Rattle.std.proofs.lemmas.Bool.{cases_lt}
 use Rattle.sat_rules.specs.Clauses.{all_true}
-use Rattle.cube_rules.specs.Cubes.{IsRefuted}
-use Rattle.follow_rules.specs.Minimal.{IsMinimal}
+use Rattle.refutation_rules.specs.Cubes.{IsRefuted}
+use Rattle.refutation_rules.specs.Minimal.{IsMinimal}
 use Rattle.follows_check.specs.Minimal.{EachIsNeeded, ShowsMinimal, without}
 use Rattle.follows_check.specs.declared.minimal.MinimalVerdict.{MinimalVerdict}
 use Rattle.follows_check.specs.declared.minimal.MinimalVerdict.TheVariants.{Minimal, Open, NoModel, Unmet}

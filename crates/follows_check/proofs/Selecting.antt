@@ -5,9 +5,9 @@ use Rattle.std.specs.List.{list_all}
 use Rattle.std.proofs.lemmas.Bool.Decides.{nat_tests}
 use Rattle.sat_rules.specs.Clauses.{var_of}
 use Rattle.sat_formula.specs.Formula.{var_count_of, vars_with}
-use Rattle.cube_rules.specs.Cubes.{IsRefuted}
-use Rattle.follow_rules.specs.Follows.{Follows, all_before, all_selectors, some_selector}
-use Rattle.follow_rules.proofs.Selectors.{follows_is_shown}
+use Rattle.refutation_rules.specs.Cubes.{IsRefuted}
+use Rattle.refutation_rules.specs.Follows.{Follows, all_before, all_selectors, some_selector}
+use Rattle.refutation_rules.proofs.Selectors.{follows_is_shown}
 use Rattle.follows_check.specs.Questions.{asks, first_free}
 
 -- ---- variables

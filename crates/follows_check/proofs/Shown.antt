@@ -6,7 +6,7 @@ use Rattle.whole_writes.specs.Beginnings.{AppendsBeginning}
 use Rattle.sat_output.specs.FormulaTexts.{formula_text}
 use Rattle.sat_output.proofs.Beginnings.{begins_whole}
 use Rattle.follows_check.specs.Runs.{BeginsQuestion}
-use Rattle.cube_rules.specs.Cubes.{IsRefuted}
+use Rattle.refutation_rules.specs.Cubes.{IsRefuted}
 use Rattle.follows_check.specs.Questions.{OfQuestion, asks}
 use Rattle.follows_check.specs.Texts.{FollowsText}
 use Rattle.follows_check.specs.Verdicts.{IsShown, verdict_on}

@@ -8,7 +8,7 @@ use Rattle.sat_formula.specs.declared.counts.LyingHeader.{LyingHeader}
 use Rattle.sat_formula.specs.Lines.{outcome_of}
 use Rattle.sat_formula.specs.Outcome.{Ended}
 use Rattle.sat_formula.specs.Whole.{IsOutcome}
-use Rattle.whole_formulas.specs.Lies.{lie_in}
+use Rattle.sat_formula.specs.Lies.{lie_in}
 
 -- a header that does not match says more clauses than there are
 abbrev pub lacks_clauses : Option LyingHeader → Bool

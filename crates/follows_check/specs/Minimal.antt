@@ -9,8 +9,8 @@ use Rattle.std.specs.Prelude.{◌≡◌, ◌<◌, ℕ, zero, suc, not, Bool, tru
 use Rattle.sat_rules.specs.Clauses.{all_true, is_negative, var_of}
 use Rattle.sat_formula.specs.Lines.{outcome_of}
 use Rattle.sat_formula.specs.Outcome.{Ended}
-use Rattle.whole_formulas.specs.Lies.{lie_in}
-use Rattle.follow_rules.specs.Minimal.{IsMinimal}
+use Rattle.sat_formula.specs.Lies.{lie_in}
+use Rattle.refutation_rules.specs.Minimal.{IsMinimal}
 use Rattle.follows_check.specs.Claims.{lacks_clauses}
 use Rattle.follows_check.specs.declared.minimal.MinimalVerdict.{MinimalVerdict}
 use Rattle.follows_check.specs.declared.minimal.MinimalVerdict.TheVariants.{Minimal, Open, NoModel, Unmet}

@@ -8,7 +8,7 @@ use Rattle.std.specs.Option.{option_map}
 use Rattle.sat_formula.specs.Lines.{outcome_of}
 use Rattle.sat_formula.specs.Outcome.{Ended}
 use Rattle.sat_formula.specs.Whole.{IsOutcome}
-use Rattle.whole_formulas.specs.Lies.{lie_in}
+use Rattle.sat_formula.specs.Lies.{lie_in}
 use Rattle.whole_writes.specs.Beginnings.{AppendsBeginning}
 use Rattle.model_check.specs.Verdicts.{FailsText}
 use Rattle.follows_check.specs.Claims.{LacksClauses, lacks_clauses}

@@ -10,7 +10,7 @@ use Rattle.sat_formula.specs.Formula.{var_count_of}
 use Rattle.sat_formula.specs.Lines.{outcome_of}
 use Rattle.sat_formula.specs.Outcome.{Ended}
 use Rattle.sat_formula.specs.Whole.{IsOutcome}
-use Rattle.follow_rules.specs.Follows.{follow_clauses}
+use Rattle.refutation_rules.specs.Follows.{follow_clauses}
 use Rattle.model_check.specs.Verdicts.{FailsText}
 use Rattle.follows_check.specs.Claims.{AreClaims, LacksClauses}
 use Rattle.follows_check.specs.declared.fault.QuestionFault.{QuestionFault}

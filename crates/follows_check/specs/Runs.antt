@@ -11,7 +11,7 @@ use Rattle.whole_writes.specs.Beginnings.{AppendsBeginning}
 use Rattle.answer_text.specs.Answers.{Lists}
 use Rattle.answer_text.specs.Literals.{IsConsistent, listed}
 use Rattle.answer_text.specs.Reading.{FailsBy, IsOutcome}
-use Rattle.follow_rules.specs.Follows.{follow_clauses}
+use Rattle.refutation_rules.specs.Follows.{follow_clauses}
 use Rattle.model_check.specs.Verdicts as models
 use Rattle.model_check.specs.Verdicts.{FailsText}
 use Rattle.model_check.specs.declared.verdict.Verdict.{Verdict as Judgment}

@@ -9,7 +9,7 @@ use Rattle.sat_formula.specs.Lines.{outcome_of}
 use Rattle.sat_formula.specs.Notes.{header_of}
 use Rattle.sat_formula.specs.Outcome.{Ended}
 use Rattle.sat_output.specs.FormulaTexts.{formula_text}
-use Rattle.follow_rules.specs.Follows.{Follows, follow_clauses}
+use Rattle.refutation_rules.specs.Follows.{Follows, follow_clauses}
 use Rattle.model_check.specs.Wholeness.{cut_of}
 use Rattle.follows_check.specs.Claims.{AreClaims}
 use Rattle.follows_check.specs.Questions.{OfQuestion, first_free}

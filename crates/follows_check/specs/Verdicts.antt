@@ -4,7 +4,7 @@
 --     verdict_on refuted      the verdict on a proof
 --     IsShown formula claims verdict      a verdict on a proof that says no more than is so
 use Rattle.std.specs.Prelude.{ℕ, Bool, true, false, List, Result, Ok, Err, codes}
-use Rattle.follow_rules.specs.Follows.{Follows}
+use Rattle.refutation_rules.specs.Follows.{Follows}
 use Rattle.follows_check.specs.declared.verdict.Verdict.{Verdict}
 use Rattle.follows_check.specs.declared.verdict.Verdict.TheVariants.{Follows as Follow, NotFollows, Open, Unmet, NoneFails}
 

@@ -3,15 +3,15 @@ ghost use Rattle.std.specs.Prelude.{◌≡◌, ◌+◌, ◌++◌, ◌∷◌, [],
 ghost use Rattle.sat_rules.specs.Clauses.{is_falsified};
 ghost use Rattle.answer_text.specs.Literals.{has_lit};
 ghost use Rattle.model_check.specs.Verdicts.{FailsText};
-ghost use Rattle.whole_formulas.specs.Lies.{IsLie};
+ghost use Rattle.sat_formula.specs.Lies.{IsLie};
 ghost use Rattle.follows_check.specs.Answers.{IsFound, IsFoundIn, IsJudged};
 ghost use Rattle.follows_check.specs.Questions.{FailsClaims};
 
 use crate::fault::QuestionFault;
 use crate::lies::lacks_clauses;
 use answer_text::Literals;
-use sat_formula::{DimacsFault, DimacsReader, Lit, LyingHeader};
-use std::alloc::Global;
+use sat_formula::{ClauseSink, DimacsFault, Lit, LyingHeader, read_into};
+use std::alloc::{AllocError, Global};
 use std::io::Read;
 
 /// A claim of which all literals are false, by its number, and the line on which it ends.
@@ -29,6 +29,32 @@ struct Judged {
     is_some: bool,
     /// The mismatch of their header, if there is one.
     lie: Option<LyingHeader>,
+}
+
+/// The first claim that fails, of those that were taken.
+#[derive(Drop)]
+struct ClaimJudge<'a> {
+    literals: &'a Literals,
+    failing: Option<Failing>,
+}
+
+/// Takes every claim: none needs memory.
+impl<'a> ClauseSink for ClaimJudge<'a> {
+    ghost use Rattle.std.specs.Prelude.{◌≡◌};
+    ghost use Rattle.answer_text.specs.Literals.{has_lit};
+    ghost use Rattle.follows_check.specs.Answers.{IsFound};
+
+    type Fault = AllocError;
+
+    ghost has_taken = { λ first claims lines judge. (judge.literals ≡ first.literals)
+        × IsFound (has_lit first.literals.now) claims lines judge.failing };
+
+    ghost has_refused = { λ first claims fault judge. Unit {0} };
+
+    fn take(&mut self, claim: &[Lit], number: u64, line: u64) -> Result<(), AllocError> {
+        self.failing = after_claim(self.failing, self.literals, claim, number, line);
+        Ok(())
+    }
 }
 
 /// Reads all claims, one at a time, and returns the first whose literals' negations are all listed,
@@ -73,18 +99,15 @@ fn judge_claims<C: Read + Drop>(
     ensures lie { IfOk result (λ judged. IsLie (C.remaining text) judged.lie) }
     ensures fault { IfErr result (λ fault. FailsText (C.remaining text) fault) }
 {
-    let mut reader = DimacsReader::new(alloc, text);
-    let mut claim = Vec::new(alloc);
-    let mut failing = None;
-    let mut count = 0u64;
-    'claims: while reader.next_clause(&mut claim)? {
-        count += 1;
-        failing = after_claim(failing, literals, &claim, count, reader.clause_line());
-    }
+    let mut judge = ClaimJudge {
+        literals,
+        failing: None,
+    };
+    let summary = read_into(alloc, text, &mut judge)?;
     Ok(Judged {
-        failing,
-        is_some: count > 0,
-        lie: reader.lying_header(),
+        failing: judge.failing,
+        is_some: summary.counts.clauses > 0,
+        lie: summary.lie,
     })
 }
 

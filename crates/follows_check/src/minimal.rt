@@ -10,13 +10,12 @@ use crate::models::check_models;
 use crate::refuting::refute;
 use drat_check::ProofFormat;
 use log::Log;
-use sat_formula::{CnfFormula, DimacsFault, LyingHeader};
+use sat_formula::{CnfFormula, DimacsFault, LyingHeader, read_formula};
 use std::alloc::Global;
 use std::io;
 use std::io::{Read, Write};
 use thiserror::Error;
 use verdicts::Claims;
-use whole_formulas::read_formula;
 use whole_writes::write_whole;
 
 /// The verdict on a formula.

@@ -8,11 +8,10 @@ ghost use Rattle.follows_check.specs.Texts.{WritesQuestion};
 use crate::fault::{QuestionFault, RunFault};
 use crate::lies::{HeaderLies, lacks_clauses};
 use crate::selectors::add_failing;
-use sat_formula::{CnfFormula, LyingHeader};
+use sat_formula::{CnfFormula, LyingHeader, read_formula};
 use sat_output::write_formula;
 use std::alloc::Global;
 use std::io::{Read, Write};
-use whole_formulas::read_formula;
 
 /// Reads a formula and claims in DIMACS CNF, and writes the formula for a solver: the formula, and
 /// some claim fails.

@@ -1,6 +1,6 @@
 //! Proofs that no assignment satisfies a formula that is in memory.
 ghost use Rattle.std.specs.Prelude.{◌≡◌, true, IfOk};
-ghost use Rattle.cube_rules.specs.Cubes.{IsRefuted};
+ghost use Rattle.refutation_rules.specs.Cubes.{IsRefuted};
 
 use drat_check::{LineForm, Outputs, ProofFormat, RunFault, run_proof};
 use log::Log;

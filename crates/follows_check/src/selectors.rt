@@ -1,6 +1,6 @@
 //! The clauses that say that some claim fails.
 ghost use Rattle.std.specs.Prelude.{◌≡◌, ◌≢◌, ◌*◌, ◌+◌, ◌^◌, ◌<◌, ◌++◌, ℕ, length, IfErr, OnOk};
-ghost use Rattle.follow_rules.specs.Follows.{follow_clauses, selector_clauses};
+ghost use Rattle.refutation_rules.specs.Follows.{follow_clauses, selector_clauses};
 ghost use Rattle.follows_check.specs.Questions.{asks, first_free};
 
 use crate::fault::QuestionFault;

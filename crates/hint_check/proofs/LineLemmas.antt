@@ -5,17 +5,18 @@ use Rattle.std.specs.Prelude.{IfErr, IfOk}
 use Rattle.sat_rules.specs.HintLines.{Listed}
 use Rattle.lrat_rules.specs.Lines.{Line}
 use Rattle.lrat_text.specs.NextLine.{view}
-use Rattle.lrat_text.specs.Texts.{Ended, Faulty, Outcome, with_line}
+use Rattle.lrat_text.specs.Texts.{Ended, Faulty, Outcome, with_line, with_lines}
+use Rattle.lrat_text.proofs.LineLemmas.{with_lines-more}
 use Rattle.lrat_text.specs.declared.fault.LratTextFault.{LratTextFault}
 use Rattle.lrat_text.specs.declared.fault.LratTextFault.TheVariants as reads
 use Rattle.lrat_text.specs.declared.line.LratLine.{LratLine}
-use Rattle.lrat_binary.specs.Proofs.{Gives, IsCounted, IsFresh, IsNoLine, line_number, lines_after, outcome_in, with_lines}
+use Rattle.lrat_binary.specs.Proofs.{Gives, IsCounted, IsFresh, IsNoLine, line_number, lines_after, outcome_in}
 use Rattle.lrat_binary.specs.Telling.{form_of}
 use Rattle.lrat_binary.specs.declared.ids.Ids.{Ids}
 use Rattle.lrat_binary.specs.declared.ids.LratForm.{LratForm}
 use Rattle.lrat_binary.specs.declared.ids.LratForm.TheVariants as forms
 use Rattle.lrat_binary.specs.declared.proof.LratReader.{LratReader}
-use Rattle.lrat_binary.proofs.GivenLines.{HasGiven, given_begun, given_end, given_fault, given_more, given_start, with_lines-more, with_lines-none}
+use Rattle.lrat_binary.proofs.GivenLines.{HasGiven, given_begun, given_end, given_fault, given_more, given_start, with_lines-none}
 use Rattle.lrat_binary.proofs.ReadLemmas.{IsExact, Known, fault_exact, line_exact, still_counted}
 use Rattle.hint_checker.specs.Checked.{IsCause, after_said, in_line, refusal}
 use Rattle.hint_checker.specs.Given.{Stops, as_hints, of_text}

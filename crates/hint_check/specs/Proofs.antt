@@ -6,9 +6,8 @@
 use Rattle.std.specs.Prelude.{◌≡◌, ℕ, Bool, List, Option, IfSome}
 use Rattle.sat_rules.specs.HintLines.{Listed}
 use Rattle.lrat_rules.specs.Lines.{Line}
-use Rattle.lrat_text.specs.Texts.{Ended, Outcome}
+use Rattle.lrat_text.specs.Texts.{Ended, Outcome, with_lines}
 use Rattle.lrat_binary.specs.Lines.{binary_of}
-use Rattle.lrat_binary.specs.Proofs.{with_lines}
 use Rattle.lrat_binary.specs.Telling.{form_of}
 use Rattle.lrat_binary.specs.declared.ids.Ids.{Ids}
 use Rattle.lrat_binary.specs.declared.ids.LratForm.{LratForm}

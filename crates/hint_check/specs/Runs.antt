@@ -21,7 +21,7 @@ use Rattle.lrat_binary.specs.declared.ids.LratForm.{LratForm}
 use Rattle.hint_checker.specs.declared.fault.HintFault.{HintFault}
 use Rattle.hint_checker.specs.declared.fault.HintFault.TheVariants as hints
 use Rattle.hint_checker.specs.declared.fault.HintTextFault.TheVariants.{Refused}
-use Rattle.whole_formulas.specs.Lies.{IsLie}
+use Rattle.sat_formula.specs.Lies.{IsLie}
 use Rattle.whole_writes.specs.Beginnings.{AppendsBeginning}
 use Rattle.verdicts.specs.Verdicts.{shown_line, verdict_of}
 use Rattle.hint_check.specs.Proofs.{AcceptsProof, IsProofRefusal, IsToldForm}

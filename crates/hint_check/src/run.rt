@@ -10,12 +10,11 @@ use crate::checking::check_proof;
 use crate::fault::RunFault;
 use hint_checker::{HintChecker, HintFault, HintTextFault};
 use lrat_binary::Ids;
-use sat_formula::{CnfFormula, LyingHeader};
+use sat_formula::{CnfFormula, LyingHeader, read_formula};
 use std::alloc::Global;
 use std::io;
 use std::io::{ErrorKind, Read, Write};
 use verdicts::{Verdict, write_line};
-use whole_formulas::read_formula;
 
 /// Reads a formula as DIMACS text and a proof in lines of hints, checks the lines over the formula,
 /// writes the verdict's line, and returns the verdict.

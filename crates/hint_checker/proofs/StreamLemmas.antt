@@ -5,16 +5,18 @@ use Rattle.std.specs.Io.KnownBytes.{Consumes}
 use Rattle.std.proofs.KnownBytes.{Consumes-nil, Consumes-trans, Consumes-whole}
 use Rattle.std.proofs.lemmas.Bool.{cases_Bool}
 use Rattle.sat_rules.specs.HintLines.{Listed}
+use Rattle.sat_formula.specs.Readings.{Known, Leads}
+use Rattle.sat_formula.proofs.Readings.{continues_as}
 use Rattle.lrat_rules.specs.Lines.{Line}
 use Rattle.lrat_text.specs.NextLine.{Gives, bytes_left, has_ended, line_number, room_left, view}
-use Rattle.lrat_text.specs.Taking.{Breaks, Follows, Leads}
-use Rattle.lrat_text.specs.Texts.{Ended, Faulty, Outcome, outcome_after, outcome_of, with_line}
+use Rattle.lrat_text.specs.Taking.{Breaks, Follows}
+use Rattle.lrat_text.specs.Texts.{Ended, Faulty, Outcome, outcome_after, outcome_of, with_line, with_lines}
 use Rattle.lrat_text.specs.declared.fault.LineKind.{LineKind}
 use Rattle.lrat_text.specs.declared.fault.LratTextFault.{LratTextFault}
 use Rattle.lrat_text.specs.declared.fault.LratTextFault.TheVariants as reads
 use Rattle.lrat_text.specs.declared.line.LratLine.{LratLine}
 use Rattle.lrat_text.specs.declared.reader.LineReader.{LineReader}
-use Rattle.lrat_text.proofs.LineLemmas.{ends_on, leads_on}
+use Rattle.lrat_text.proofs.LineLemmas.{follows_under, with_lines-more}
 use Rattle.hint_rules.specs.Accepted.{Accepts}
 use Rattle.hint_checker.specs.Checked.{IsCause, IsRefusalBy, Refuses, after_said, in_line, refusal}
 use Rattle.hint_checker.specs.Given.{as_hints, of_text}
@@ -23,9 +25,6 @@ use Rattle.hint_checker.specs.declared.fault.HintTextFault.TheVariants.{Refused}
 use Rattle.hint_checker.specs.declared.fault.LineFault.{LineFault}
 use Rattle.hint_checker.specs.declared.fault.LineFault.TheVariants as causes
 use Rattle.hint_checker.proofs.OutcomeLemmas.{Run, accepts, refuses, run_more}
-
-abbrev Known : Type 0
-Known = Option (List ℕ)
 
 -- ---- the text of a reader
 
@@ -55,18 +54,13 @@ found : (known left : Known) (over : Bool) (g : List ℕ → Outcome) → Follow
 found known left false g f = record { text = f.taken ++ left_after left; gives = gives_all known left f.taken f.consumed; rest = left_after left; says = f.same (left_after left) }
 found known left true g f = record { text = f.taken; gives = Consumes-whole known left f.taken (λ bs. f.taken ≡ bs) f.consumed f.at_end refl; rest = []; says = f.same }
 
--- an outcome after these lines
-abbrev behind : List (ℕ × Line) → Outcome → Outcome
-behind xs o = (xs ++ o.0, o.1)
-
-ended : (xs : List (ℕ × Line)) → behind xs ([], Ended) ≡ (xs, Ended)
+ended : (xs : List (ℕ × Line)) → with_lines xs ([], Ended) ≡ (xs, Ended)
 ended xs = rw append-nil refl
 
 -- after the text so far it continues
-goes_on : (known left new : Known) (n : ℕ) (over : Bool) (xs : List (ℕ × Line)) (g h : List ℕ → Outcome) → ((more : List ℕ) → behind xs (g more) ≡ h more) →
-    Leads known left (outcome_after 0) (λ more. behind xs (outcome_after n more)) → Follows left new n over g → Follows known new 0 over h
-goes_on known left new n false xs g h is e f = leads_on e (record { taken = f.taken; consumed = f.consumed; same = λ more. ap (behind xs) (f.same more) ∙ is more })
-goes_on known left new n true xs g h is e f = ends_on e (record { taken = f.taken; consumed = f.consumed; at_end = f.at_end; same = ap (behind xs) f.same ∙ is [] })
+goes_on : (known left new : Known) (n : ℕ) (over : Bool) (xs : List (ℕ × Line)) (g h : List ℕ → Outcome) → ((more : List ℕ) → with_lines xs (g more) ≡ h more) →
+    Leads known left (outcome_after 0) (λ more. with_lines xs (outcome_after n more)) → Follows left new n over g → Follows known new 0 over h
+goes_on known left new n over xs g h is e f = continues_as known new over (outcome_after 0) (follows_under new 0 n over (with_lines xs) g e f) is
 
 -- the fault of a line, by its cause
 pub by_cause : (refuses : ℕ → LineFault → Type 0) (m : ℕ) (fault : LineFault) (o : Option LineFault) → IsCause fault o → ((g : LineFault) → o ≡ Some g → refuses m g) → IsRefusalBy refuses (in_line fault m)
@@ -81,13 +75,13 @@ by_cause refuses m causes.OutOfMemory o e r = tt
 
 pub record SoFar (known left : Known) (number : ℕ) (over : Bool) (h k : Listed) : Type 0 where
   pub lines : List (ℕ × Line)
-  pub text : Follows known left 0 over (λ more. behind lines (outcome_after number more))
+  pub text : Follows known left 0 over (λ more. with_lines lines (outcome_after number more))
   pub run : Run h lines k
 
 pub so_far_start : (known left : Known) (number : ℕ) (over : Bool) (h : Listed) → left ≡ known → number ≡ 0 → over ≡ false → SoFar known left number over h h
 so_far_start known left number over h e n o = record {
   lines = [];
-  text = subst (λ (b : Bool). Follows known left 0 b (λ more. behind [] (outcome_after number more))) (sym o)
+  text = subst (λ (b : Bool). Follows known left 0 b (λ more. with_lines [] (outcome_after number more))) (sym o)
       (record { taken = []; consumed = subst (λ b. Consumes known b []) (sym e) (Consumes-nil known); same = λ more. ap (λ m. outcome_after m more) (sym n) });
   run = refl;
 }
@@ -98,15 +92,15 @@ module _ (known left : Known) (number : ℕ) (h k : Listed) where
       refusal k (as_hints line) ≡ None → SoFar known new m over h (after_said k (as_hints line))
   so_far_more so new over m line goes none = record {
     lines = so.lines ++ (m, line) ∷ [];
-    text = goes_on known left new number over so.lines (λ more. with_line m line (outcome_after m more)) (λ more. behind (so.lines ++ (m, line) ∷ []) (outcome_after m more))
-        (λ more. let o = outcome_after m more in ap (λ (xs : List (ℕ × Line)). (xs, o.1)) (sym (append_assoc so.lines ((m, line) ∷ []) o.0))) so.text goes;
+    text = goes_on known left new number over so.lines (λ more. with_line m line (outcome_after m more)) (λ more. with_lines (so.lines ++ (m, line) ∷ []) (outcome_after m more))
+        (λ more. with_lines-more so.lines m line (outcome_after m more)) so.text goes;
     run = run_more h k so.lines m line so.run none;
   }
 
   pub so_far_ended : (over : Bool) → SoFar known left number over h k → (new : Known) → (over ≡ false → Follows left new number true (λ more. ([], Ended))) →
       (text : List ℕ) × GivesText known text × Accepts h text k
   so_far_ended false so new goes =
-      let f = found known new true _ (goes_on known left new number true so.lines (λ more. ([], Ended)) (λ more. (so.lines, Ended)) (λ more. ended so.lines) so.text (goes refl)) in
+      let f = found known new true (λ x. (so.lines, Ended)) (goes_on known left new number true so.lines (λ more. ([], Ended)) (λ more. (so.lines, Ended)) (λ more. ended so.lines) so.text (goes refl)) in
       (f.text, f.gives, accepts h k so.lines so.run f.text f.says)
   so_far_ended true so new goes =
       let text = so.text.taken in
@@ -124,7 +118,7 @@ module _ (known left : Known) (number : ℕ) (h k : Listed) where
         is_open = b.is_open;
         held = k;
         accepts = accepts h k so.lines so.run front
-            (so.text.same b.passed ∙ ap (behind so.lines) (ap (outcome_after number) (sym (append-nil b.passed)) ∙ b.same []) ∙ ended so.lines);
+            (so.text.same b.passed ∙ ap (with_lines so.lines) (ap (outcome_after number) (sym (append-nil b.passed)) ∙ b.same []) ∙ ended so.lines);
       }
 
   -- a line that is rejected, or malformed
@@ -132,7 +126,7 @@ module _ (known left : Known) (number : ℕ) (h k : Listed) where
       m < 2 ^ 64 - 1 → (fault : LineFault) → IsCause fault (refusal k (as_hints line)) → IsTextRefusal known h (Refused (in_line fault m))
   so_far_refused so new over m line goes below fault cause =
       let f = found known new over _ (goes_on known left new number over so.lines (λ more. with_line m line (outcome_after m more))
-      (λ more. behind so.lines (with_line m line (outcome_after m more))) (λ more. refl) so.text goes) in
+      (λ more. with_lines so.lines (with_line m line (outcome_after m more))) (λ more. refl) so.text goes) in
       let later = outcome_after m f.rest in (
         f.text,
         f.gives,
@@ -143,7 +137,7 @@ module _ (known left : Known) (number : ℕ) (h k : Listed) where
   pub so_far_malformed : (so : SoFar known left number false h k) (new : Known) (over : Bool) (m : ℕ) (kind : LineKind) → Follows left new number over (λ more. ([], Faulty m kind)) →
       m < 2 ^ 64 - 1 → IsTextRefusal known h (Refused (in_line causes.Malformed m))
   so_far_malformed so new over m kind goes below =
-      let f = found known new over _ (goes_on known left new number over so.lines (λ more. ([], Faulty m kind)) (λ more. behind so.lines ([], Faulty m kind)) (λ more. refl) so.text goes) in
+      let f = found known new over _ (goes_on known left new number over so.lines (λ more. ([], Faulty m kind)) (λ more. with_lines so.lines ([], Faulty m kind)) (λ more. refl) so.text goes) in
       (f.text, f.gives, refuses h k so.lines so.run f.text ([], Faulty m kind) f.says m below causes.Malformed (refl, refl))
 
 -- ---- what the reader gave

@@ -3,7 +3,7 @@ use Rattle.std.proofs.Common.{◌≡◌, ℕ, Bool, true, false, List, [], ◌�
 use Rattle.std.specs.Prelude.{All}
 use Rattle.std.proofs.lemmas.Bool.{false≢true}
 use Rattle.std.proofs.lemmas.List.Elements.{All-append, All-cons, All-map, All-nil}
-use Rattle.cube_rules.specs.Cubes.{clause_against, units_of}
+use Rattle.refutation_rules.specs.Cubes.{clause_against, units_of}
 use Rattle.receipts.specs.Joins.{IsPartShown, part_text, parts_of}
 use Rattle.receipts.specs.declared.receipt.Receipt.{Receipt}
 use Rattle.sha2.specs.Sha256.{sha256}

@@ -1,7 +1,7 @@
 //! The digests of the texts of a formula's parts.
 ghost use Rattle.std.specs.Prelude.{◌≡◌, ℕ, List, All, IfOk, map};
 ghost use Rattle.sha2.specs.Hashers.{Holds256};
-ghost use Rattle.cube_rules.specs.Cubes.{clause_against, units_of};
+ghost use Rattle.refutation_rules.specs.Cubes.{clause_against, units_of};
 ghost use Rattle.sat_output.specs.Words.{IsCode};
 ghost use Rattle.join_check.specs.Parts.{ArePartTexts, IsPartDigest};
 

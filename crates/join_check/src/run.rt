@@ -121,11 +121,11 @@ fn read_and_judge_parts<F: Read + Drop, C: Read + Drop, P: Read + Drop>(
         Ok(receipts) => receipts,
         Err(fault) => return Err(RunFault::Receipts(fault)),
     };
-    let formula = match read_formula(alloc, cnf) {
+    let formula = match read_formula(alloc, cnf, &mut None) {
         Ok(formula) => formula,
         Err(fault) => return Err(RunFault::Formula(fault)),
     };
-    let cubes = match read_formula(alloc, cubes) {
+    let cubes = match read_formula(alloc, cubes, &mut None) {
         Ok(cubes) => cubes,
         Err(fault) => return Err(RunFault::Cubes(fault)),
     };

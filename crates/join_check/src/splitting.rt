@@ -1,7 +1,7 @@
 //! The lines of what the parts of a formula have in addition to its clauses.
 ghost use Rattle.std.specs.Prelude.{◌≡◌, map, OnOk};
 ghost use Rattle.sat_output.specs.FormulaTexts.{clauses_text};
-ghost use Rattle.cube_rules.specs.Cubes.{clause_against, units_of};
+ghost use Rattle.refutation_rules.specs.Cubes.{clause_against, units_of};
 ghost use Rattle.join_check.specs.Hashed.{Takes};
 
 use crate::line_hasher::LineHasher;

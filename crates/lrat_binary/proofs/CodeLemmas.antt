@@ -1,23 +1,21 @@
 -- What the number that was read does in a line.
-use Rattle.std.proofs.Common.{◌≡◌, ℕ, ◌^◌, List, [], ◌∷◌, ◌++◌, Result, Ok, Err, refl, sym, ap, ◌∙◌}
+use Rattle.std.proofs.Common.{◌≡◌, ℕ, ◌^◌, List, [], ◌∷◌, Result, Ok, Err, refl, sym}
+use Rattle.sat_formula.specs.Readings.{Known, Fails, by_byte, by_end}
 use Rattle.sat_formula.specs.declared.source.Source.{Source}
 use Rattle.sat_formula.specs.Outcome.{next_line}
+use Rattle.sat_formula.proofs.Readings.{ends_by, leads_by}
 use Rattle.drat_text.specs.declared.fault.DratKind.{DratKind}
 use Rattle.drat_text.specs.declared.fault.Stop.{Stop}
 use Rattle.drat_text.specs.declared.fault.Stop.TheVariants as stops
 use Rattle.drat_text.specs.Codes.{Code, code_at}
 use Rattle.drat_text.specs.Reading.{FailsCode, TakesCode, cut_off, too_long}
-use Rattle.drat_text.specs.Taking as takings
 use Rattle.drat_text.proofs.CodeLemmas.{partial_says}
-use Rattle.lrat_text.specs.Taking.{Leads}
-use Rattle.lrat_text.specs.Texts.{Outcome}
+use Rattle.lrat_text.specs.Texts.{Faulty, Outcome}
 use Rattle.lrat_binary.specs.declared.ids.Ids.{Ids}
 use Rattle.lrat_binary.specs.Kinds.{line_kind}
 use Rattle.lrat_binary.specs.Lines.{outcome_at}
 use Rattle.lrat_binary.specs.Places.{InNumber, Slot, Within, code_does}
 use Rattle.lrat_binary.specs.Reading.{ReadsCode, goes_on}
-use Rattle.lrat_binary.specs.Taking.{Fails, by_byte, by_end}
-use Rattle.lrat_binary.proofs.Takings.{Known}
 
 module _ (ids : Ids) (before : ℕ) (slot : Slot) where
   abbrev says : Code → List ℕ → Outcome
@@ -36,21 +34,17 @@ module _ (ids : Ids) (before : ℕ) (slot : Slot) where
   begun_read [] = groups_read 0 1 []
   begun_read (b ∷ bs) = groups_read 0 1 (b ∷ bs)
 
-  leads_by : {a b : Known} {f g : List ℕ → Code × List ℕ} {h k : List ℕ → Outcome} → ((m : List ℕ) → h m ≡ does (f m)) → takings.Leads a b f g → ((m : List ℕ) → does (g m) ≡ k m) →
-      Leads a b h k
-  leads_by e p q = record { taken = p.taken; consumed = p.consumed; same = λ m. e (p.taken ++ m) ∙ ap does (p.same m) ∙ q m }
-
-  fails_read : {a b : Known} {kind : DratKind} → FailsCode (2 ^ 56) a b kind → Fails a b (outcome_at ids before (Within slot)) (next_line before) (line_kind kind)
+  fails_read : {a b : Known} {kind : DratKind} → FailsCode (2 ^ 56) a b kind → Fails a b (outcome_at ids before (Within slot)) ([], Faulty (next_line before) (line_kind kind))
   unfolding outcome_at
-  fails_read (too_long p) = by_byte (leads_by begun_read p (λ m. refl))
-  fails_read (cut_off v w p) = by_end (record { taken = p.taken; consumed = p.consumed; at_end = p.at_end; same = begun_read p.taken ∙ ap does p.same })
+  fails_read (too_long p) = by_byte (leads_by does begun_read p (λ m. refl))
+  fails_read (cut_off v w p) = by_end (ends_by does begun_read p)
 
   -- a number does what its value does
   pub code_read : {R : Type 0} (a b : Known) (source : Source R) (n : Result ℕ Stop) → TakesCode (2 ^ 56) a b source n →
       ReadsCode ids before slot a b (outcome_at ids before (Within slot)) source n
-  code_read a b source (Ok n) p = leads_by begun_read p (λ m. refl)
+  code_read a b source (Ok n) p = leads_by does begun_read p (λ m. refl)
   code_read a b source (Err stops.Read) p =
-      (record { place = InNumber slot p.0.value p.0.weight; leads = leads_by begun_read p.0.leads (λ m. sym (groups_read p.0.value p.0.weight m)) }, p.1)
+      (record { place = InNumber slot p.0.value p.0.weight; leads = leads_by does begun_read p.0.leads (λ m. sym (groups_read p.0.value p.0.weight m)) }, p.1)
   code_read a b source (Err (stops.Wrong kind)) p = fails_read p
   code_read a b source (Err stops.OutOfMemory) p = tt
   code_read a b source (Err stop) p = absurd p

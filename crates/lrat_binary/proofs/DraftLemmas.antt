@@ -1,20 +1,20 @@
 -- What a draft does with a letter and with a number.
 use Rattle.std.proofs.Common.{ℕ, [], ◌∷◌, Result, Ok, Err}
 use Rattle.std.specs.Io.KnownBytes.{Consumes}
+use Rattle.sat_formula.specs.Readings.{Known, Leads, by_byte}
 use Rattle.sat_formula.specs.declared.source.Source.{Source}
+use Rattle.sat_formula.proofs.Readings.{leads_on}
 use Rattle.drat_text.specs.declared.fault.Stop.{Stop}
 use Rattle.drat_text.specs.declared.fault.Stop.TheVariants as stops
-use Rattle.lrat_text.specs.Taking.{Leads}
 use Rattle.lrat_text.specs.declared.row.Head.{Head}
-use Rattle.lrat_text.proofs.LineLemmas.{leads_on}
 use Rattle.lrat_binary.specs.declared.draft.Draft.{Draft}
 use Rattle.lrat_binary.specs.declared.ids.Ids.{Ids}
 use Rattle.lrat_binary.specs.Drafts.{BeginsLine, TakesNumber, slot_of}
 use Rattle.lrat_binary.specs.Lines.{outcome_at}
 use Rattle.lrat_binary.specs.Places.{After, Goes, Outside, Stops, Within, begun}
 use Rattle.lrat_binary.specs.Reading.{ReadsLetter, ReadsLine, goes_on}
-use Rattle.lrat_binary.specs.Taking.{Stopped, by_byte}
-use Rattle.lrat_binary.proofs.Takings.{Known, Tells, byte_on, on_as, stopped_on}
+use Rattle.lrat_binary.specs.Taking.{Stopped}
+use Rattle.lrat_binary.proofs.Takings.{Tells, byte_on, on_as, stopped_on}
 
 module _ (ids : Ids) (before : ℕ) where
   -- the letter of a line

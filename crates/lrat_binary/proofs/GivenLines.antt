@@ -1,20 +1,21 @@
 -- The lines of a proof that a reader gave so far.
 --     HasGiven      these lines, and how the proof continues
 --     Found      a proof of the reader's bytes that says this
-use Rattle.std.proofs.Common.{◌≡◌, ℕ, Bool, true, false, List, [], ◌∷◌, ◌++◌, Option, Some, None, Result, Ok, Err, refl, sym, ap, ◌∙◌, append_assoc, append-nil}
+use Rattle.std.proofs.Common.{◌≡◌, ℕ, Bool, true, false, List, [], ◌∷◌, ◌++◌, Option, Some, None, Result, Ok, Err, refl, sym, ap, ◌∙◌, append-nil}
 use Rattle.std.specs.Prelude.{IfSome}
 use Rattle.std.specs.Io.KnownBytes.{Consumes}
 use Rattle.std.proofs.KnownBytes.{Consumes-kept, Consumes-nil, Consumes-whole}
+use Rattle.sat_formula.proofs.Readings.{continues_as, continues_on, continues_under}
 use Rattle.lrat_rules.specs.Lines.{Line}
 use Rattle.lrat_text.specs.NextLine.{view}
-use Rattle.lrat_text.specs.Texts.{Ended, Ending, Faulty, Outcome, with_line}
+use Rattle.lrat_text.specs.Texts.{Ended, Ending, Faulty, Outcome, with_line, with_lines}
 use Rattle.lrat_text.specs.declared.fault.LineKind.{LineKind}
 use Rattle.lrat_text.specs.declared.fault.LratTextFault.{LratTextFault}
 use Rattle.lrat_text.specs.declared.fault.LratTextFault.TheVariants as reads
 use Rattle.lrat_text.specs.declared.line.LratLine.{LratLine}
-use Rattle.lrat_text.proofs.LineLemmas.{ends_on, leads_on}
+use Rattle.lrat_text.proofs.LineLemmas.{with_lines-more}
 use Rattle.lrat_binary.specs.Lines.{outcome_at}
-use Rattle.lrat_binary.specs.Proofs.{BeginsWith, Gives, IsFresh, SaysAll, bytes_left, form_now, has_ended, line_number, lines_after, outcome_in, with_lines}
+use Rattle.lrat_binary.specs.Proofs.{BeginsWith, Gives, IsFresh, SaysAll, bytes_left, form_now, has_ended, line_number, lines_after, outcome_in}
 use Rattle.lrat_binary.specs.declared.ids.LratForm.{LratForm}
 use Rattle.lrat_binary.specs.declared.ids.LratForm.TheVariants as forms
 use Rattle.lrat_binary.specs.declared.proof.LratReader.{LratReader}
@@ -70,10 +71,6 @@ unfolding outcome_at
 no_line forms.Text n = refl
 no_line (forms.Binary ids) n = refl
 
--- one more line
-pub with_lines-more : (ls : List (ℕ × Line)) (n : ℕ) (l : Line) (o : Outcome) → with_lines ls (with_line n l o) ≡ with_lines (ls ++ (n, l) ∷ []) o
-with_lines-more ls n l o = ap (λ (xs : List (ℕ × Line)). (xs, o.1)) (sym (append_assoc ls ((n, l) ∷ []) o.0))
-
 -- no line more
 pub with_lines-none : (ls : List (ℕ × Line)) (ending : Ending) → with_lines ls ([], ending) ≡ (ls, ending)
 with_lines-none ls ending = ap (λ (xs : List (ℕ × Line)). (xs, ending)) (append-nil ls)
@@ -88,13 +85,11 @@ module _ (form : LratForm) (known left : Known) where
     pub goes_on : (n : ℕ) (new : Known) (over : Bool) (g : List ℕ → Outcome) →
         Goes form known left 0 false (λ more. with_lines ls (lines_after form n more)) → Goes form left new n over g →
         Goes form known new 0 over (λ more. with_lines ls (g more))
-    goes_on n new false g e f = leads_on e (record { taken = f.taken; consumed = f.consumed; same = λ more. ap (with_lines ls) (f.same more) })
-    goes_on n new true g e f = ends_on e (record { taken = f.taken; consumed = f.consumed; at_end = f.at_end; same = ap (with_lines ls) f.same })
+    goes_on n new over g e f = continues_on new over (λ more. with_lines ls (g more)) e (continues_under left new over (with_lines ls) (lines_after form n) g f)
 
     more_goes : (new : Known) (over : Bool) (m : ℕ) (l : Line) → Goes form known new 0 over (λ more. with_lines ls (with_line m l (lines_after form m more))) →
         Goes form known new 0 over (λ more. with_lines (ls ++ (m, l) ∷ []) (lines_after form m more))
-    more_goes new false m l h = record { taken = h.taken; consumed = h.consumed; same = λ more. h.same more ∙ with_lines-more ls m l (lines_after form m more) }
-    more_goes new true m l h = record { taken = h.taken; consumed = h.consumed; at_end = h.at_end; same = h.same ∙ with_lines-more ls m l (lines_after form m []) }
+    more_goes new over m l h = continues_as known new over (lines_after form 0) h (λ more. with_lines-more ls m l (lines_after form m more))
 
     -- to an ending
     ends_found : (ending : Ending) → Found known (outcome_in form) (λ more. with_lines ls ([], ending)) → Found known (outcome_in form) (λ more. (ls, ending))

@@ -3,9 +3,10 @@
 --     IsExact form n      the number of a line of text is exact
 use Rattle.std.proofs.Common.{◌≡◌, ℕ, ◌-◌, ◌^◌, ◌<◌, Bool, true, false, List, [], Option, Some, None, Result, Ok, Err, refl, ap, arith}
 use Rattle.std.proofs.lemmas.Bool.{false_from_ne_true}
+pub use Rattle.sat_formula.specs.Readings.{Known}
+use Rattle.sat_formula.specs.Readings.{Continues, Fails, by_byte, by_end}
 use Rattle.lrat_text.specs.NextLine.{view}
 use Rattle.lrat_text.specs.NextLine as texts
-use Rattle.lrat_text.specs.Taking.{EndsAll, Follows, Leads}
 use Rattle.lrat_text.specs.Texts.{Ended, Faulty, Outcome, with_line}
 use Rattle.lrat_text.specs.declared.fault.LineKind.{LineKind}
 use Rattle.lrat_text.specs.declared.fault.LratTextFault.{LratTextFault}
@@ -14,28 +15,19 @@ use Rattle.lrat_text.specs.declared.line.LratLine.{LratLine}
 use Rattle.lrat_binary.specs.NextLine as binaries
 use Rattle.lrat_binary.specs.Lines.{binary_after}
 use Rattle.lrat_binary.specs.Proofs.{Gives, IsCounted, bytes_left, form_now, has_ended, line_number, lines_after}
-use Rattle.lrat_binary.specs.Taking.{Fails, by_byte, by_end}
 use Rattle.lrat_binary.specs.declared.ids.Ids.{Ids}
 use Rattle.lrat_binary.specs.declared.ids.LratForm.{LratForm}
 use Rattle.lrat_binary.specs.declared.ids.LratForm.TheVariants as forms
 use Rattle.lrat_binary.specs.declared.proof.LratReader.{LratReader}
 use Rattle.lrat_binary.specs.declared.proof.LratReader.TheVariants.{Text, Binary}
 
-abbrev pub Known : Type 0
-Known = Option (List ℕ)
-
 abbrev pub Goes : LratForm → Known → Known → ℕ → Bool → (List ℕ → Outcome) → Type 0
-Goes form a b before false rest = Leads a b (lines_after form before) rest
-Goes form a b before true rest = EndsAll a b (lines_after form before) rest
+Goes form a b before over rest = Continues a b over (lines_after form before) rest
 
 -- the number of a line of text is exact;  that of a binary line is the one that the proof's lines have
 abbrev pub IsExact : LratForm → ℕ → Type 0
 IsExact forms.Text n = n < 2 ^ 64 - 1
 IsExact (forms.Binary ids) n = Unit {0}
-
-as_goes : (a b : Known) (before : ℕ) (over : Bool) (rest : List ℕ → Outcome) → Follows a b before over rest → Goes forms.Text a b before over rest
-as_goes a b before false rest p = p
-as_goes a b before true rest p = p
 
 module _ {R : Type 0} (remaining : R → Option (List ℕ)) where
   -- only a reader that has not ended gives something
@@ -54,8 +46,7 @@ module _ {R : Type 0} (remaining : R → Option (List ℕ)) where
   pub gave_line : (old new : LratReader R) (line : LratLine) → has_ended old ≡ false → Gives remaining old new (Ok (Some line)) →
       Goes (form_now old) (bytes_left remaining old) (bytes_left remaining new) (line_number old) (has_ended new)
       (λ more. with_line (line_number new) (view line) (lines_after (form_now old) (line_number new) more))
-  gave_line (Text old) (Text new) line on gives =
-      as_goes (texts.bytes_left remaining old) (texts.bytes_left remaining new) (texts.line_number old) (texts.has_ended new) _ (gives.reads on).0
+  gave_line (Text old) (Text new) line on gives = (gives.reads on).0
   gave_line (Binary old) (Binary new) line on gives = let a = gives.reads on in rw a.1 (rw gives.ids at a.0)
   gave_line old new line on gives = absurd gives
 
@@ -66,7 +57,7 @@ module _ {R : Type 0} (remaining : R → Option (List ℕ)) where
   gave_end (Binary old) (Binary new) on gives = (gives.reads on).0
   gave_end old new on gives = absurd gives
 
-  fails_so : (ids : Ids) (before : ℕ) (a b : Known) (n : ℕ) (kind : LineKind) → Fails a b (binary_after ids before) n kind →
+  fails_so : (ids : Ids) (before : ℕ) (a b : Known) (n : ℕ) (kind : LineKind) → Fails a b (binary_after ids before) ([], Faulty n kind) →
       (over : Bool) × Goes (forms.Binary ids) a b before over (λ more. ([], Faulty n kind))
   fails_so ids before a b n kind (by_byte p) = (false, p)
   fails_so ids before a b n kind (by_end p) = (true, p)
@@ -76,7 +67,7 @@ module _ {R : Type 0} (remaining : R → Option (List ℕ)) where
       (over : Bool) × Goes (form_now old) (bytes_left remaining old) (bytes_left remaining new) (line_number old) over (λ more. ([], Faulty n kind))
   gave_fault (Text old) (Text new) n kind on gives =
       let a = gives.reads on in
-      rw a.0 (a.1.0, as_goes (texts.bytes_left remaining old) (texts.bytes_left remaining new) (texts.line_number old) a.1.0 _ a.1.1)
+      rw a.0 (a.1.0, a.1.1)
   gave_fault (Binary old) (Binary new) n kind on gives = fails_so old.ids old.number _ _ n kind (gives.reads on).0
   gave_fault old new n kind on gives = absurd gives
 

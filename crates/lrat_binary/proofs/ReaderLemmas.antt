@@ -1,13 +1,13 @@
 -- What a reader answers.
 use Rattle.std.proofs.Common.{◌≡◌, ℕ, ◌<◌, true, false, List, Option, Some, Result, Ok, Err, refl, sym, arith}
 use Rattle.sat_formula.specs.Outcome.{next_line}
+use Rattle.sat_formula.specs.Readings.{Leads}
 use Rattle.sat_formula.specs.Source.{IsStopped}
 use Rattle.sat_formula.specs.declared.source.Source.{Source}
 use Rattle.lrat_rules.specs.Lines.{Line}
 use Rattle.drat_text.specs.Taking.{source_of}
 use Rattle.drat_text.specs.declared.fault.Stop.{Stop}
 use Rattle.drat_text.specs.declared.fault.Stop.TheVariants as stops
-use Rattle.lrat_text.specs.Taking.{Leads}
 use Rattle.lrat_text.specs.Texts.{Outcome}
 use Rattle.lrat_text.specs.declared.fault.LratTextFault.{LratTextFault}
 use Rattle.lrat_text.specs.declared.fault.LratTextFault.TheVariants as faults

@@ -4,6 +4,7 @@
 use Rattle.std.specs.Prelude.{◌≡◌, ℕ, suc, ◌<◌, Bool, true, false, List, [], Option, Some, None, Result, Ok, Err, if◌then◌else◌}
 use Rattle.std.specs.declared.io.Error.{Error}
 use Rattle.sat_formula.specs.Outcome.{next_line}
+use Rattle.sat_formula.specs.Readings.{Leads, EndsAll, Breaks, Fails}
 use Rattle.sat_formula.specs.declared.source.Source.{Source}
 use Rattle.sat_formula.specs.Source.{IsErrorOf}
 use Rattle.lrat_rules.specs.Lines.{Line}
@@ -11,16 +12,14 @@ use Rattle.drat_text.specs.Taking.{unread_bytes, room_in, source_of}
 use Rattle.drat_text.specs.declared.fault.Stop.{Stop}
 use Rattle.drat_text.specs.declared.fault.Stop.TheVariants as stops
 use Rattle.lrat_text.specs.NextLine.{view}
-use Rattle.lrat_text.specs.Taking.{Leads, EndsAll}
-use Rattle.lrat_text.specs.Texts.{Ended, Outcome, with_line}
+use Rattle.lrat_text.specs.Texts.{Ended, Faulty, Outcome, with_line}
 use Rattle.lrat_text.specs.declared.fault.LratTextFault.{LratTextFault}
 use Rattle.lrat_text.specs.declared.fault.LratTextFault.TheVariants as faults
 use Rattle.lrat_text.specs.declared.line.LratLine.{LratLine}
 use Rattle.lrat_binary.specs.declared.ids.Ids.{Ids}
 use Rattle.lrat_binary.specs.declared.reader.BinaryReader.{BinaryReader}
 use Rattle.lrat_binary.specs.Kinds.{line_kind}
-use Rattle.lrat_binary.specs.Lines.{binary_after}
-use Rattle.lrat_binary.specs.Taking.{Breaks, Fails}
+use Rattle.lrat_binary.specs.Lines.{binary_after, outcome_at}
 
 -- the bytes that are still to come, if the reader beneath says them
 abbrev pub bytes_left : {R : Type 0} → (R → Option (List ℕ)) → BinaryReader R → Option (List ℕ)
@@ -63,14 +62,15 @@ Answers remaining seen old new (Ok (Some x)) =
     × (has_ended new ≡ false) × (work_left new < work_left old)
 Answers remaining seen old new (Ok None) =
     EndsAll (bytes_left remaining old) (bytes_left remaining new) (rest_of old)
-    (λ more. ([], Ended))
+    ([], Ended)
     × (has_ended new ≡ true)
 Answers remaining seen old new (Err (faults.Read e)) =
-    Breaks (ids_of old) (line_number old) (bytes_left remaining old) (bytes_left remaining new)
-    (rest_of old)
+    Breaks (outcome_at (ids_of old) (line_number old)) (bytes_left remaining old)
+    (bytes_left remaining new) (rest_of old)
     × IsReadError new e × (has_ended new ≡ true)
 Answers remaining seen old new (Err (faults.Line number kind)) =
-    Fails (bytes_left remaining old) (bytes_left remaining new) (rest_of old) number kind
+    Fails (bytes_left remaining old) (bytes_left remaining new) (rest_of old)
+    ([], Faulty number kind)
     × (number ≡ line_number new) × (has_ended new ≡ true)
 Answers remaining seen old new (Err faults.OutOfMemory) = has_ended new ≡ true
 

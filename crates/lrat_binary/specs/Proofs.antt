@@ -3,11 +3,11 @@
 --     SaysAll says known ls e, BeginsWith says known ls      a proof says these lines and ends so;  it begins with these lines
 --     bytes_left, line_number, has_ended, work_left, form_now      what a caller knows of a reader
 --     Gives      what a call gave, and the reader after it
-use Rattle.std.specs.Prelude.{◌≡◌, ℕ, ◌+◌, ◌-◌, ◌^◌, ◌≤◌, Bool, false, List, ◌++◌, Option, IfSome, Result}
+use Rattle.std.specs.Prelude.{◌≡◌, ℕ, ◌+◌, ◌-◌, ◌^◌, ◌≤◌, Bool, false, List, Option, IfSome, Result}
 use Rattle.std.specs.Io.KnownBytes.{Keeps}
 use Rattle.lrat_rules.specs.Lines.{Line}
 use Rattle.lrat_text.specs.NextLine as texts
-use Rattle.lrat_text.specs.Texts.{Ending, Outcome, outcome_after}
+use Rattle.lrat_text.specs.Texts.{Ending, Outcome, outcome_after, with_lines}
 use Rattle.lrat_text.specs.declared.fault.LratTextFault.{LratTextFault}
 use Rattle.lrat_text.specs.declared.fault.LratTextFault.TheVariants as faults
 use Rattle.lrat_text.specs.declared.line.LratLine.{LratLine}
@@ -26,10 +26,6 @@ lines_after (forms.Binary ids) before bytes = binary_after ids before bytes
 -- the whole proof; its lines count from 1
 abbrev pub outcome_in : LratForm → List ℕ → Outcome
 outcome_in form bytes = lines_after form 0 bytes
-
--- an outcome after these lines
-abbrev pub with_lines : List (ℕ × Line) → Outcome → Outcome
-with_lines ls o = (ls ++ o.0, o.1)
 
 -- the proof, where its bytes are known, says these lines and ends so
 abbrev pub SaysAll : (List ℕ → Outcome) → Option (List ℕ) → List (ℕ × Line) → Ending → Type 0

@@ -1,10 +1,10 @@
 -- What the parts of reading a line answer, after this many lines. f is what all the bytes give from where the part began.
 use Rattle.std.specs.Prelude.{ℕ, List, [], Option, Result, Ok, Err}
 use Rattle.sat_formula.specs.Outcome.{next_line}
+use Rattle.sat_formula.specs.Readings.{Leads}
 use Rattle.sat_formula.specs.declared.source.Source.{Source}
 use Rattle.lrat_rules.specs.Lines.{Line}
 use Rattle.drat_text.specs.declared.fault.Stop.{Stop}
-use Rattle.lrat_text.specs.Taking.{Leads}
 use Rattle.lrat_text.specs.Texts.{Outcome, Faulty, with_line}
 use Rattle.lrat_text.specs.declared.row.Head.{Head}
 use Rattle.lrat_binary.specs.declared.draft.Draft.{Draft}

@@ -1,6 +1,6 @@
 -- The lines of a proof in turn.
 --     SoFar      the lines that were read so far, all of them accepted
-use Rattle.std.proofs.Common.{◌≡◌, ℕ, true, false, List, [], ◌∷◌, ◌++◌, Option, Some, None, Ok, Err, refl, sym, ap}
+use Rattle.std.proofs.Common.{◌≡◌, ℕ, true, false, List, [], ◌∷◌, ◌++◌, Option, Some, None, Ok, Err, sym}
 use Rattle.lrat_rules.specs.Lines.{Line}
 use Rattle.lrat_text.specs.NextLine.{view}
 use Rattle.lrat_text.specs.Texts.{Ended, Faulty}
@@ -19,11 +19,8 @@ use Rattle.lrat_checker.specs.declared.checker.LratChecker.{LratChecker}
 use Rattle.lrat_checker.specs.declared.fault.LineFault.{LineFault}
 use Rattle.lrat_checker.specs.declared.fault.LineFault.TheVariants as faults
 use Rattle.lrat_checker.specs.declared.fault.LratFault.TheVariants as answers
+use Rattle.lrat_checker.proofs.TextLemmas.{said-more}
 use Rattle.lrat_check.specs.Answers.{IsLratAnswer}
-
-said-more : (ls : List (ℕ × Line)) (n : ℕ) (l : Line) → said (ls ++ (n, l) ∷ []) ≡ said ls ++ l ∷ []
-said-more [] n l = refl
-said-more (x ∷ ls) n l = ap (λ ms. x.1 ∷ ms) (said-more ls n l)
 
 -- ---- the loop over lines
 

@@ -5,21 +5,22 @@
 use Rattle.std.proofs.Common.{◌≡◌, ℕ, Bool, true, false, List, MatchBool, Option, Some, Result, Ok, Err, refl, sym, ◌∙◌, subst}
 use Rattle.std.specs.Option.{option_map}
 use Rattle.sat_rules.specs.Named.{Item}
-use Rattle.piece_rules.proofs.Joining.{piece_carries}
+use Rattle.refutation_rules.proofs.Joining.{piece_carries}
 use Rattle.lrat_binary.specs.declared.ids.Ids.{Ids}
 use Rattle.lrat_checker.specs.TextAnswers.{said}
 use Rattle.lrat_checker.specs.declared.checker.LratChecker.{LratChecker}
+use Rattle.sat_formula.specs.Readings.{Known}
 use Rattle.sat_formula.specs.declared.counts.LyingHeader.{LyingHeader}
 use Rattle.sat_formula.specs.Lines as dimacs
 use Rattle.sat_formula.specs.Outcome.{Ended}
 use Rattle.sat_formula.specs.Refuted.{IsRefuted}
 use Rattle.sat_formula.specs.Whole.{IsOutcome}
-use Rattle.whole_formulas.specs.Lies.{IsLie}
+use Rattle.sat_formula.specs.Lies.{IsLie}
 use Rattle.verdicts.specs.declared.piece.PieceVerdict.{PieceVerdict}
 use Rattle.verdicts.specs.declared.piece.PieceVerdict.TheVariants.{Refuted, Carried, NotCarried}
-use Rattle.piece_runs.specs.declared.missing.MissingClause.{MissingClause}
-use Rattle.piece_runs.specs.Texts.{CarriesText, IsPieceShown, OfFormulas}
-use Rattle.piece_runs.proofs.Reading.{carries_text, of_formulas}
+use Rattle.verdicts.specs.declared.missing.MissingClause.{MissingClause}
+use Rattle.verdicts.specs.Texts.{CarriesText, IsPieceShown, OfFormulas}
+use Rattle.verdicts.proofs.Reading.{carries_text, of_formulas}
 use Rattle.lrat_check.specs.Answers.{IsLratAnswer, proof_says}
 use Rattle.lrat_check.specs.Known.{IsFirstMissing, IsHeld, KnowsAll, Lacks}
 use Rattle.lrat_check.specs.Pieces.{IsPieceRun, IsReadPieceRun, Leaves, PieceShows, ShowsMissing, TellsPieceLies, verdict_by}
@@ -29,9 +30,6 @@ use Rattle.lrat_check.specs.declared.piece_fault.PieceFault.{PieceFault}
 use Rattle.lrat_check.specs.declared.piece_fault.PieceFault.TheVariants.{Run, Wanted}
 use Rattle.lrat_check.proofs.KnownLemmas.{lacks_one}
 use Rattle.lrat_check.proofs.RunLemmas.{formula_refuted}
-
-abbrev Known : Type 0
-Known = Option (List ℕ)
 
 module _ (ids : Option Ids) (formula wanted : List (List ℕ)) (known : Known) where
   -- a checker has accepted all lines, and none of them adds the empty clause

@@ -7,6 +7,7 @@ use Rattle.std.proofs.Common.{◌≡◌, ℕ, ◌-◌, Bool, true, false, List, 
 use Rattle.std.specs.Prelude.{IfSome, OnErr, ◌^◌, min, if◌then◌else◌}
 use Rattle.std.proofs.lemmas.Bool.{false_from_ne_true}
 use Rattle.std.proofs.lemmas.Option.{IfSome_then}
+use Rattle.sat_formula.specs.Readings.{Known}
 use Rattle.sat_rules.specs.Clauses.{all_true}
 use Rattle.lrat_rules.proofs.Running.{runs_refute}
 use Rattle.lrat_text.specs.Texts.{Ended, Faulty, Outcome}
@@ -30,9 +31,6 @@ use Rattle.verdicts.specs.Verdicts.{verdict_of}
 use Rattle.verdicts.specs.declared.verdict.Verdict.{Verdict}
 use Rattle.verdicts.specs.declared.verdict.Verdict.TheVariants.{Verified}
 use Rattle.lrat_check.proofs.DecideLemmas.{decided}
-
-abbrev Known : Type 0
-Known = Option (List ℕ)
 
 -- ---- in the form detected from the bytes
 

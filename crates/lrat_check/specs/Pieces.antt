@@ -16,13 +16,13 @@ use Rattle.lrat_binary.specs.declared.ids.Ids.{Ids}
 use Rattle.lrat_checker.specs.TextAnswers.{said}
 use Rattle.lrat_checker.specs.declared.fault.LratFault.{LratFault}
 use Rattle.sat_formula.specs.declared.counts.LyingHeader.{LyingHeader}
-use Rattle.whole_formulas.specs.Lies.{IsLie}
+use Rattle.sat_formula.specs.Lies.{IsLie}
 use Rattle.whole_writes.specs.Beginnings.{AppendsBeginning}
 use Rattle.verdicts.specs.Pieces.{piece_line}
 use Rattle.verdicts.specs.declared.piece.PieceVerdict.{PieceVerdict}
 use Rattle.verdicts.specs.declared.piece.PieceVerdict.TheVariants.{Refuted, Carried, NotCarried}
-use Rattle.piece_runs.specs.Texts.{OfFormula, OfFormulas}
-use Rattle.piece_runs.specs.declared.missing.MissingClause.{MissingClause}
+use Rattle.verdicts.specs.Texts.{OfFormula, OfFormulas}
+use Rattle.verdicts.specs.declared.missing.MissingClause.{MissingClause}
 use Rattle.lrat_check.specs.Answers.{proof_says}
 use Rattle.lrat_check.specs.Held.{FailsText}
 use Rattle.lrat_check.specs.Known.{IsFirstMissing, IsHeld, Lacks}

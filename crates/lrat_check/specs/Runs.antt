@@ -18,7 +18,7 @@ use Rattle.lrat_rules.specs.Lines.{is_refuted}
 use Rattle.lrat_binary.specs.declared.ids.Ids.{Ids}
 use Rattle.lrat_checker.specs.Standing.{has_refuted}
 use Rattle.lrat_checker.specs.TextAnswers.{said}
-use Rattle.whole_formulas.specs.Lies.{IsLie}
+use Rattle.sat_formula.specs.Lies.{IsLie}
 use Rattle.whole_writes.specs.Beginnings.{AppendsBeginning}
 use Rattle.lrat_checker.specs.declared.checker.LratChecker.{LratChecker}
 use Rattle.lrat_checker.specs.declared.fault.LratFault.{LratFault}

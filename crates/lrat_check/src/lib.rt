@@ -14,6 +14,5 @@ pub use fault::RunFault;
 pub use lrat_binary::Ids;
 pub use piece::{PieceTold, run_piece};
 pub use piece_fault::PieceFault;
-pub use piece_runs::MissingClause;
 pub use run::{run_check, run_proof};
-pub use verdicts::{PieceVerdict, Verdict, exit_status};
+pub use verdicts::{MissingClause, PieceVerdict, Verdict, exit_status};

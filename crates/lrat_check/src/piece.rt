@@ -2,7 +2,7 @@
 ghost use Rattle.std.specs.Prelude.{◌≡◌, ◌≢◌, ℕ, List, Some, Ok, IfOk};
 ghost use Rattle.std.specs.Io.KnownBytes.{Appends};
 ghost use Rattle.sat_formula.specs.Refuted.{IsRefuted};
-ghost use Rattle.piece_runs.specs.Texts.{CarriesText};
+ghost use Rattle.verdicts.specs.Texts.{CarriesText};
 ghost use Rattle.lrat_check.specs.Held.{HoldsCounted};
 ghost use Rattle.lrat_check.specs.Pieces.{BeginsPiece, BeginsShown, IsPieceRun, IsReadPieceRun, IsSilentPiece, IsUnwrittenPiece, PieceShows, ShowsMissing, TellsMissing, TellsPieceLies, verdict_by};
 ghost use Rattle.verdicts.specs.Pieces.{piece_line};
@@ -15,12 +15,10 @@ use crate::refuting::refute_after;
 use crate::stored::{KnownIds, holds_all};
 use lrat_binary::Ids;
 use lrat_checker::LratFault;
-use piece_runs::MissingClause;
-use sat_formula::{CnfFormula, LyingHeader};
+use sat_formula::{CnfFormula, LyingHeader, read_formula};
 use std::alloc::Global;
 use std::io::{Read, Write};
-use verdicts::{PieceVerdict, write_piece_line};
-use whole_formulas::read_formula;
+use verdicts::{MissingClause, PieceVerdict, write_piece_line};
 
 /// What a run over a piece reports in addition to its verdict.
 #[derive(Drop)]

@@ -4,7 +4,7 @@ use Rattle.std.specs.Io.KnownBytes.{Appends}
 use Rattle.std.specs.Prelude.{IfOk}
 use Rattle.command.specs.Calls.{Choice}
 use Rattle.lrat_check_main.specs.Pieces.{KeepsPiece, ShowsPiece}
-use Rattle.piece_runs.specs.Texts.{CarriesText}
+use Rattle.verdicts.specs.Texts.{CarriesText}
 use Rattle.receipt_files.specs.Named.{GivesReceipt, carries_of, refuted_of}
 use Rattle.sat_formula.specs.Refuted.{IsRefuted}
 use Rattle.verdicts.specs.Pieces.{piece_line, shows_wanted}

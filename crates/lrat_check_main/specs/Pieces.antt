@@ -4,7 +4,7 @@
 use Rattle.std.specs.Prelude.{ℕ, ◌⊎◌, List, Option}
 use Rattle.std.specs.Io.KnownBytes.{Appends}
 use Rattle.command.specs.Calls.{Choice}
-use Rattle.piece_runs.specs.Texts.{CarriesText}
+use Rattle.verdicts.specs.Texts.{CarriesText}
 use Rattle.receipt_files.specs.Named.{GivesReceipt, carries_of, refuted_of}
 use Rattle.sat_formula.specs.Refuted.{IsRefuted}
 use Rattle.verdicts.specs.Pieces.{piece_line}

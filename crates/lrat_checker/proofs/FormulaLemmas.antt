@@ -1,7 +1,6 @@
 -- Clauses of a formula, given one after the other.
-use Rattle.std.proofs.Common.{◌≡◌, ℕ, suc, ◌+◌, ◌<◌, ◌≤◌, false, cond, List, [], ◌∷◌, ◌++◌, length, Option, Some, None, Result, Ok, Err, refl, ap, ◌∙◌, arith}
-use Rattle.std.specs.Prelude.{◌||◌, ◌==◌, OnOk}
-use Rattle.std.specs.Result.{is_err}
+use Rattle.std.proofs.Common.{◌≡◌, ℕ, suc, ◌+◌, ◌<◌, ◌≤◌, cond, List, [], ◌∷◌, ◌++◌, length, Option, Some, None, refl, ap, ◌∙◌, arith}
+use Rattle.std.specs.Prelude.{◌||◌, ◌==◌}
 use Rattle.std.proofs.lemmas.Bool.{ne_eqb}
 use Rattle.sat_formula.specs.Outcome.{Ended, Outcome}
 use Rattle.sat_formula.specs.Whole.{BeginsWith}
@@ -39,8 +38,3 @@ empty_is (l ∷ ls) = ne_eqb (length (l ∷ ls)) 0 (λ e. omega (arith, e))
 pub begins_anyhow : (known : Option Outcome) → BeginsWith known []
 begins_anyhow None = (([], Ended), tt)
 begins_anyhow (Some o) = (o, refl)
-
--- what is said of an answer that is no error
-pub ok_part : {A E P : Type 0} (r : Result A E) → is_err r ≡ false → OnOk r P → P
-ok_part (Ok x) e p = p
-ok_part (Err x) e p = absurd cc

@@ -1,39 +1,32 @@
 -- The lines of a text in turn.
 --     SoFar      the lines that were read so far, all of them accepted
-use Rattle.std.proofs.Common.{◌≡◌, ℕ, Bool, true, false, ◌&&◌, List, [], ◌∷◌, ◌++◌, Option, Some, None, Ok, Err, refl, sym, ap, ◌∙◌, append_assoc, append-nil}
+use Rattle.std.proofs.Common.{◌≡◌, ℕ, Bool, true, false, ◌&&◌, List, [], ◌∷◌, ◌++◌, Option, Some, None, Ok, Err, refl, ap, ◌∙◌, append_assoc, append-nil}
 use Rattle.std.specs.Prelude.{IfSome}
 use Rattle.std.proofs.KnownBytes.{Consumes-nil, Consumes-trans}
 use Rattle.std.specs.declared.io.Error.{Error}
+use Rattle.sat_formula.specs.Readings.{Leads}
+use Rattle.sat_formula.proofs.Readings.{continues_as, ends_all, leads_all}
 use Rattle.lrat_rules.specs.Lines.{Line}
 use Rattle.lrat_text.specs.NextLine.{IsReadError, bytes_left, line_number}
-use Rattle.lrat_text.specs.Taking.{Breaks, EndsAll, Follows, Leads}
-use Rattle.lrat_text.specs.Texts.{Ended, Ending, Faulty, Outcome, outcome_after, outcome_of, with_line}
+use Rattle.lrat_text.specs.Taking.{Breaks, Follows}
+use Rattle.lrat_text.specs.Texts.{Ended, Ending, Faulty, Outcome, outcome_after, outcome_of, with_line, with_lines}
 use Rattle.lrat_text.specs.declared.fault.LineKind.{LineKind}
 use Rattle.lrat_text.specs.declared.reader.LineReader.{LineReader}
-use Rattle.lrat_text.proofs.LineLemmas.{follows_as, follows_under}
+use Rattle.lrat_text.proofs.LineLemmas.{follows_under, with_lines-more}
 use Rattle.lrat_checker.specs.Faults.{in_line}
 use Rattle.lrat_checker.specs.Standing.{HasAccepted, IsAnswer, IsReady, has_refuted}
-use Rattle.lrat_checker.specs.TextAnswers.{BeginsWith, IfCut, IsBroken, IsCut, IsTextAnswer, SaysAll, StopsAfter, said, with_lines}
+use Rattle.lrat_checker.specs.TextAnswers.{BeginsWith, IfCut, IsBroken, IsCut, IsTextAnswer, SaysAll, StopsAfter, said}
 use Rattle.lrat_checker.specs.declared.checker.LratChecker.{LratChecker}
 use Rattle.lrat_checker.specs.declared.fault.LineFault.{LineFault}
 use Rattle.lrat_checker.specs.declared.fault.LineFault.TheVariants as faults
 use Rattle.lrat_checker.specs.declared.fault.LratFault.TheVariants as texts
 
 -- one more line
-with_lines-more : (ls : List (ℕ × Line)) (n : ℕ) (l : Line) (o : Outcome) → with_lines ls (with_line n l o) ≡ with_lines (ls ++ (n, l) ∷ []) o
-with_lines-more ls n l o = ap (λ (xs : List (ℕ × Line)). (xs, o.1)) (sym (append_assoc ls ((n, l) ∷ []) o.0))
-
-said-more : (ls : List (ℕ × Line)) (n : ℕ) (l : Line) → said (ls ++ (n, l) ∷ []) ≡ said ls ++ l ∷ []
+pub said-more : (ls : List (ℕ × Line)) (n : ℕ) (l : Line) → said (ls ++ (n, l) ∷ []) ≡ said ls ++ l ∷ []
 said-more [] n l = refl
 said-more (x ∷ ls) n l = ap (λ ms. x.1 ∷ ms) (said-more ls n l)
 
--- what is known of a whole text
-whole : (known left : Option (List ℕ)) (g : List ℕ → Outcome) → EndsAll known left (outcome_after 0) g → IfSome known (λ bytes. outcome_of bytes ≡ g [])
-whole None left g e = tt
-whole (Some bytes) None g e = absurd e.consumed
-whole (Some bytes) (Some rest) g e = ap outcome_of (e.consumed ∙ ap (λ r. e.taken ++ r) e.at_end ∙ append-nil e.taken) ∙ e.same
-
--- and of one of which some bytes are left
+-- what is known of a text of which some bytes are left
 with_rest : (known left : Option (List ℕ)) (g : List ℕ → Outcome) → Leads known left (outcome_after 0) g → (rest : List ℕ) × IfSome known (λ bytes. outcome_of bytes ≡ g rest)
 with_rest None left g e = ([], tt)
 with_rest (Some bytes) None g e = absurd e.consumed
@@ -43,10 +36,10 @@ with_rest (Some bytes) (Some rest) g e = (rest, ap outcome_of e.consumed ∙ e.s
 module _ (known left : Option (List ℕ)) (ls : List (ℕ × Line)) where
   pub text_begins : (n : ℕ) (over : Bool) → Follows known left 0 over (λ more. with_lines ls (outcome_after n more)) → BeginsWith known ls
   text_begins n false e = let r = with_rest known left (λ more. with_lines ls (outcome_after n more)) e in (outcome_after n r.0, r.1)
-  text_begins n true e = (outcome_after n [], whole known left (λ more. with_lines ls (outcome_after n more)) e)
+  text_begins n true e = (outcome_after n [], ends_all known left (with_lines ls (outcome_after n [])) e)
 
   pub text_ended : (n : ℕ) → Follows known left 0 true (λ more. with_lines ls (outcome_after n more)) → SaysAll known ls Ended
-  text_ended n e = rw (append-nil ls) at (whole known left (λ more. with_lines ls (outcome_after n more)) e)
+  text_ended n e = rw (append-nil ls) at (ends_all known left (with_lines ls (outcome_after n [])) e)
 
   -- after the text so far it goes on to an ending
   pub text_ends : (n : ℕ) (new : Option (List ℕ)) (over : Bool) (ending : Ending) →
@@ -55,8 +48,8 @@ module _ (known left : Option (List ℕ)) (ls : List (ℕ × Line)) where
   text_ends n new over ending e f = go over (follows_under new 0 n over (with_lines ls) (λ more. ([], ending)) e f)
     where
       go : (b : Bool) → Follows known new 0 b (λ more. with_lines ls ([], ending)) → SaysAll known ls ending
-      go false h = rw (append-nil ls) at (with_rest known new (λ more. with_lines ls ([], ending)) h).1
-      go true h = rw (append-nil ls) at (whole known new (λ more. with_lines ls ([], ending)) h)
+      go false h = rw (append-nil ls) at (leads_all known new (with_lines ls ([], ending)) h)
+      go true h = rw (append-nil ls) at (ends_all known new (with_lines ls ([], ending)) h)
 
   -- to a line
   pub text_more : (n : ℕ) (new : Option (List ℕ)) (over : Bool) (m : ℕ) (l : Line) →
@@ -64,7 +57,8 @@ module _ (known left : Option (List ℕ)) (ls : List (ℕ × Line)) where
       Follows left new n over (λ more. with_line m l (outcome_after m more)) →
       Follows known new 0 over (λ more. with_lines (ls ++ (m, l) ∷ []) (outcome_after m more))
   text_more n new over m l e f =
-      follows_as known new 0 over _ _ (λ more. with_lines-more ls m l (outcome_after m more)) (follows_under new 0 n over (with_lines ls) (λ more. with_line m l (outcome_after m more)) e f)
+      continues_as known new over (outcome_after 0) (follows_under new 0 n over (with_lines ls) (λ more. with_line m l (outcome_after m more)) e f)
+      (λ more. with_lines-more ls m l (outcome_after m more))
 
 -- to a read that failed
 stops_after : {R : Type 0} (remaining : R → Option (List ℕ)) (known left : Option (List ℕ)) (ls : List (ℕ × Line)) (n : ℕ)

@@ -1,5 +1,5 @@
 -- What the check of a text answers.
---     said ls, with_lines ls o      the lines without their numbers;  an outcome behind lines
+--     said ls      the lines without their numbers
 --     SaysAll known ls e, BeginsWith known ls      the text says these lines and ends so;  it begins with these lines
 --     IsTextAnswer      the answer of a check, and what the checker has accepted then
 --     IsCut      what a failed read leaves: the lines before it, and its error
@@ -9,7 +9,7 @@ use Rattle.std.specs.declared.io.Error.{Error}
 use Rattle.lrat_rules.specs.Lines.{Line}
 use Rattle.lrat_text.specs.Bytes.{IsOpen}
 use Rattle.lrat_text.specs.NextLine.{IsReadError, bytes_left, line_number}
-use Rattle.lrat_text.specs.Texts.{Ended, Ending, Faulty, Outcome, outcome_after, outcome_of}
+use Rattle.lrat_text.specs.Texts.{Ended, Ending, Faulty, Outcome, outcome_after, outcome_of, with_lines}
 use Rattle.lrat_text.specs.declared.fault.LineKind.{LineKind}
 use Rattle.lrat_text.specs.declared.reader.LineReader.{LineReader}
 use Rattle.lrat_checker.specs.Standing.{HasAccepted, IsAnswer, IsReady, has_refuted}
@@ -22,10 +22,6 @@ use Rattle.lrat_checker.specs.declared.fault.LratFault.TheVariants.{Failed, OutO
 -- the lines without their numbers
 abbrev pub said : List (ℕ × Line) → List Line
 said ls = map (λ x. x.1) ls
-
--- an outcome behind these lines
-abbrev pub with_lines : List (ℕ × Line) → Outcome → Outcome
-with_lines ls o = (ls ++ o.0, o.1)
 
 -- the text, where its bytes are known, says these lines and ends so
 abbrev pub SaysAll : Option (List ℕ) → List (ℕ × Line) → Ending → Type 0

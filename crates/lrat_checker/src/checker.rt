@@ -5,7 +5,7 @@ ghost use Rattle.sat_rules.specs.Named.{NamedBy};
 ghost use Rattle.lrat_rules.specs.Lines.{Line, adds_empty};
 ghost use Rattle.lrat_rules.specs.Stores.{find};
 ghost use Rattle.lrat_rules.specs.Tables.{cause_by_table, table_after};
-ghost use Rattle.piece_rules.specs.Carrying.{Carries};
+ghost use Rattle.refutation_rules.specs.Carrying.{Carries};
 ghost use Rattle.lrat_checker.specs.Causes.{IsCause};
 ghost use Rattle.lrat_checker.specs.declared.fault.LineFault.TheVariants.{Failed};
 ghost use Rattle.lrat_checker.specs.declared.fault.LratFault.TheVariants as texts;

@@ -1,16 +1,11 @@
 //! The clauses of a formula, given one after the other.
-ghost use Rattle.std.specs.Prelude.{◌≡◌, ◌++◌, ◌∷◌, [], ℕ, true, false, List, IfErr, IfOk, OnErr, OnOk};
-ghost use Rattle.std.specs.Option.{option_map};
+ghost use Rattle.std.specs.Prelude.{◌≡◌, ◌++◌, ◌∷◌, [], ℕ, true, false, List, IfOk, OnErr, OnOk};
 ghost use Rattle.std.specs.Result.{is_err};
-ghost use Rattle.sat_formula.specs.Lines.{outcome_of};
-ghost use Rattle.sat_formula.specs.Outcome.{Ended};
-ghost use Rattle.sat_formula.specs.Whole.{FailsAfter, IsOutcome};
 
 use crate::checker::LratChecker;
 use crate::clauses::Clauses;
-use sat_formula::{CnfFormula, DimacsFault, DimacsReader, Lit};
+use sat_formula::{CnfFormula, Lit};
 use std::alloc::{AllocError, Global};
-use std::io::Read;
 
 /// The clauses of a formula under 1, 2 and so on, before lines are checked.
 ///
@@ -64,33 +59,6 @@ impl LratFormula {
         let mut made = LratFormula::with_room(alloc, formula.len())?;
         for clause in formula {
             made.add_clause(clause)?;
-        }
-        Ok(made)
-    }
-
-    /// Reads a whole formula as DIMACS text and returns its clauses, which are stored only here.
-    ///
-    /// # Errors
-    ///
-    /// The first fault of the text, a failed read or out of memory. The clauses before it are
-    /// dropped.
-    pub fn read<F: Read + Drop>(alloc: Global, cnf: F) -> Result<LratFormula, DimacsFault>
-        ensures whole { IfOk result (λ made. (formula : List (List ℕ))
-            × IsOutcome (option_map outcome_of (F.remaining cnf)) (formula, Ended)
-            × HoldsFormula formula made) }
-        ensures fault { IfErr result (λ fault. (clauses : List (List ℕ))
-            × FailsAfter (option_map outcome_of (F.remaining cnf)) clauses fault) }
-    {
-        let mut made = match LratFormula::new(alloc) {
-            Ok(made) => made,
-            Err(_) => return Err(DimacsFault::OutOfMemory),
-        };
-        let mut reader = DimacsReader::new(alloc, cnf);
-        let mut clause = Vec::new(alloc);
-        'clauses: while reader.next_clause(&mut clause)? {
-            if made.add_clause(&clause).is_err() {
-                return Err(DimacsFault::OutOfMemory);
-            }
         }
         Ok(made)
     }

@@ -1,13 +1,14 @@
 -- The number in front of a line.
-use Rattle.std.proofs.Common.{◌≡◌, ℕ, zero, suc, ◌+◌, ◌-◌, ◌*◌, ◌^◌, ◌<◌, ◌≤◌, true, false, List, [], ◌∷◌, ◌++◌, length}
+use Rattle.std.proofs.Common.{◌≡◌, ℕ, zero, suc, ◌+◌, ◌-◌, ◌*◌, ◌^◌, ◌<◌, true, false, List, [], ◌∷◌, ◌++◌, length}
 use Rattle.std.proofs.Common.{get_or, take, drop, Some, refl, sym, ap, ◌∙◌, arith, length-drop, subst}
 use Rattle.std.proofs.Math.Nat.{pow-le-pow_right}
 use Rattle.std.proofs.lemmas.Grind.{pow_more}
-use Rattle.std.specs.Prelude.{◌==◌, slice_index}
+use Rattle.std.specs.Prelude.{slice_index}
 use Rattle.std.proofs.lemmas.Bool.Decides.{nat_tests}
 use Rattle.std.proofs.lemmas.List.{drop_more, take_all, take_more}
 use Rattle.sat_formula.specs.Bytes.{is_digit}
 use Rattle.sat_formula.specs.Lines.{value_from}
+use Rattle.sat_formula.proofs.ShortNumbers.{digit_small, no_minus}
 use Rattle.lrat_text.specs.Bytes.{IsLine, ends_word, words_in}
 use Rattle.lrat_text.specs.declared.number.Number.TheVariants.{Exact}
 use Rattle.lrat_text.specs.FirstNumbers.{HasDigits, IsDigitsWord, IsFirst}
@@ -19,12 +20,6 @@ use Rattle.lrat_text.proofs.WordLemmas.{line_some, line_inside, line_rest, words
 
 no_end : (b : ℕ) → is_digit b ≡ true → ends_word b ≡ false
 no_end b e = grind (arith, nat_tests)
-
-digit_small : (b : ℕ) → is_digit b ≡ true → b - 48 ≤ 9
-digit_small b e = grind (arith, nat_tests, e)
-
-no_minus : (b : ℕ) → is_digit b ≡ true → (b == 45) ≡ false
-no_minus b e = grind (arith, nat_tests)
 
 value_from-more : (v w d : ℕ) (ds : List ℕ) → value_from v ds ≡ Some w → is_digit d ≡ true → value_from v (ds ++ d ∷ []) ≡ Some (w * 10 + (d - 48))
 value_from-more v w d [] e f = grind arith

@@ -1,5 +1,5 @@
 -- The lines of a text, one after the other.
-use Rattle.std.proofs.Common.{◌≡◌, ℕ, ◌+◌, Bool, true, false, List, [], ◌∷◌, ◌++◌, get_or, take, Option, Some, Result, refl, sym, ap, ◌∙◌, append_assoc, arith}
+use Rattle.std.proofs.Common.{◌≡◌, ℕ, ◌+◌, Bool, List, [], ◌∷◌, ◌++◌, get_or, take, Option, Some, Result, refl, sym, ap, ◌∙◌, append_assoc, arith}
 use Rattle.std.specs.Io.KnownBytes.{Consumes, IsAtEnd}
 use Rattle.std.proofs.KnownBytes.{Consumes-trans}
 use Rattle.std.proofs.lemmas.Bool.{eqb-true}
@@ -9,17 +9,16 @@ use Rattle.memchr.specs.Find.{IsFirstByte, is_byte}
 use Rattle.sat_formula.specs.Bytes.{is_lf}
 use Rattle.sat_formula.specs.Lines.{lines_of, words_of}
 use Rattle.sat_formula.specs.Outcome.{next_line}
+use Rattle.sat_formula.specs.Readings.{Known, Leads, EndsAll}
 use Rattle.sat_formula.proofs.Lines.{slice_split-front}
+use Rattle.sat_formula.proofs.Readings.{continues_on, continues_under}
 use Rattle.lrat_rules.specs.Lines.{Line}
 use Rattle.lrat_text.specs.declared.fault.LineKind.{LineKind}
 use Rattle.lrat_text.specs.declared.fault.LineKind.TheVariants.{Malformed, Unfinished}
 use Rattle.lrat_text.specs.Grammar.{says}
 use Rattle.lrat_text.specs.Bytes.{IsLine, IsOpen}
-use Rattle.lrat_text.specs.Taking.{Leads, EndsAll, Follows, Breaks}
-use Rattle.lrat_text.specs.Texts.{Outcome, line_then, lines_from, outcome_after}
-
-abbrev pub Known : Type 0
-Known = Option (List ℕ)
+use Rattle.lrat_text.specs.Taking.{Follows, Breaks}
+use Rattle.lrat_text.specs.Texts.{Outcome, line_then, lines_from, outcome_after, with_line, with_lines}
 
 -- what a line says, and then the rest of its text
 abbrev pub said_then : ℕ → Result (Option Line) LineKind → List ℕ → Outcome
@@ -45,7 +44,7 @@ line_leads before line is_open consumed = record {
 }
 
 pub last_ends : {a b : Known} (before : ℕ) (line : List ℕ) → IsOpen line → Consumes a b line → IsAtEnd b →
-    EndsAll a b (outcome_after before) (said_then (next_line before) (says Unfinished (words_of line)))
+    EndsAll a b (outcome_after before) (said_then (next_line before) (says Unfinished (words_of line)) [])
 last_ends before line is_open consumed at_end = record {
   taken = line;
   consumed = consumed;
@@ -61,37 +60,16 @@ first_line bytes n p = record {
   is_open = λ k d lt. grind (arith, get_or-take, get_or_default, length-take-le, p.0.high, p.0.before k, lt);
 }
 
+-- one more line
+pub with_lines-more : (ls : List (ℕ × Line)) (n : ℕ) (l : Line) (o : Outcome) → with_lines ls (with_line n l o) ≡ with_lines (ls ++ (n, l) ∷ []) o
+with_lines-more ls n l o = ap (λ (xs : List (ℕ × Line)). (xs, o.1)) (sym (append_assoc ls ((n, l) ∷ []) o.0))
+
 -- ---- line after line
-
-pub leads_on : {a b c : Known} {f g h : List ℕ → Outcome} → Leads a b f g → Leads b c g h → Leads a c f h
-leads_on {a} {b} {c} {f} p q = record {
-  taken = p.taken ++ q.taken;
-  consumed = Consumes-trans a b c p.taken q.taken p.consumed q.consumed;
-  same = λ more. ap f (append_assoc p.taken q.taken more) ∙ p.same (q.taken ++ more) ∙ q.same more;
-}
-
-pub ends_on : {a b c : Known} {f g h : List ℕ → Outcome} → Leads a b f g → EndsAll b c g h → EndsAll a c f h
-ends_on {a} {b} {c} p q = record {
-  taken = p.taken ++ q.taken;
-  consumed = Consumes-trans a b c p.taken q.taken p.consumed q.consumed;
-  at_end = q.at_end;
-  same = p.same q.taken ∙ q.same;
-}
 
 -- a line after those that were read, which come before the outcome so
 pub follows_under : {a b : Known} (c : Known) (before number : ℕ) (over : Bool) (h : Outcome → Outcome) (g : List ℕ → Outcome) →
     Leads a b (outcome_after before) (λ more. h (outcome_after number more)) → Follows b c number over g → Follows a c before over (λ more. h (g more))
-follows_under c before number false h g p q = leads_on p (record { taken = q.taken; consumed = q.consumed; same = λ more. ap h (q.same more) })
-follows_under c before number true h g p q = ends_on p (record { taken = q.taken; consumed = q.consumed; at_end = q.at_end; same = ap h q.same })
-
-pub follows_on : {a b : Known} (c : Known) (before number : ℕ) (over : Bool) (rest : List ℕ → Outcome) →
-    Leads a b (outcome_after before) (outcome_after number) → Follows b c number over rest → Follows a c before over rest
-follows_on c before number over rest p q = follows_under c before number over (λ o. o) rest p q
-
--- a reading of f is one of a function that agrees with it
-pub follows_as : (a b : Known) (before : ℕ) (over : Bool) (f g : List ℕ → Outcome) → ((more : List ℕ) → f more ≡ g more) → Follows a b before over f → Follows a b before over g
-follows_as a b before false f g e p = record { taken = p.taken; consumed = p.consumed; same = λ more. p.same more ∙ e more }
-follows_as a b before true f g e p = record { taken = p.taken; consumed = p.consumed; at_end = p.at_end; same = p.same ∙ e [] }
+follows_under {a} {b} c before number over h g p q = continues_on c over (λ more. h (g more)) p (continues_under b c over h (outcome_after number) g q)
 
 pub breaks_on : {a b c : Known} {before number last : ℕ} → Leads a b (outcome_after before) (outcome_after number) → Breaks b c number last → Breaks a c before last
 breaks_on {a} {b} {c} {before} p q = record {

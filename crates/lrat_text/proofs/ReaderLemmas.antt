@@ -4,7 +4,9 @@ use Rattle.std.specs.Prelude.{not}
 use Rattle.std.proofs.lemmas.Bool.{false_from_ne_true, true≢false}
 use Rattle.sat_formula.specs.Lines.{words_of}
 use Rattle.sat_formula.specs.Outcome.{next_line}
+use Rattle.sat_formula.specs.Readings.{Known}
 use Rattle.sat_formula.specs.declared.source.Source.{Source}
+use Rattle.sat_formula.proofs.Readings.{continues_on}
 use Rattle.lrat_rules.specs.Lines.{Line}
 use Rattle.lrat_text.specs.declared.fault.LineKind.{LineKind}
 use Rattle.lrat_text.specs.declared.fault.LineKind.TheVariants.{Malformed, Unfinished}
@@ -21,7 +23,7 @@ use Rattle.lrat_text.specs.Holding.{HoldsLine}
 use Rattle.lrat_text.specs.NextLine.{Gives, bytes_left, has_ended, line_number, room_left, work_left, rest_of, Reads, Answers, Counts, CountsBytes, CountsLine, JudgesLine, Explains}
 use Rattle.lrat_text.specs.Reading.{ReadsAs, line_if, line_of}
 use Rattle.lrat_text.specs.Taking.{Follows}
-use Rattle.lrat_text.proofs.LineLemmas.{Known, said_then, line_leads, last_ends, follows_on, breaks_on}
+use Rattle.lrat_text.proofs.LineLemmas.{said_then, line_leads, last_ends, breaks_on}
 
 -- ---- one line
 
@@ -82,17 +84,17 @@ stop_counts old now new last stops.OutOfMemory fault p q e is = rw e tt
 module _ {R : Type 0} (remaining : R → Option (List ℕ)) (old now new : LineReader R) where
   -- what a loop keeps: lines that say nothing were read
   pub line_passed : Reads remaining old now false (rest_of now) → JudgesLine remaining now new (Ok None) → Reads remaining old new (has_ended new) (rest_of new)
-  line_passed p q = follows_on (bytes_left remaining new) (line_number old) (line_number now) (has_ended new) (rest_of new) p q
+  line_passed p q = continues_on (bytes_left remaining new) (has_ended new) (rest_of new) p q
 
   pub line_given : (head : Head) → Reads remaining old now false (rest_of now) → JudgesLine remaining now new (Ok (Some head)) →
       work_left new < work_left old → Answers remaining (line_of new.row) old new (Ok (Some head))
-  line_given head p q less = (follows_on (bytes_left remaining new) (line_number old) (line_number now) (has_ended new) _ p q, less)
+  line_given head p q less = (continues_on (bytes_left remaining new) (has_ended new) _ p q, less)
 
   -- nothing is read after a stop
   pub stop_told : (last : LineReader R) (stop : Stop) (fault : LratTextFault) → Reads remaining old now false (rest_of now) → JudgesLine remaining now new (Err stop)
       → Explains new.lines.source new.number stop fault → last ≡ record new { ended = true } → Answers remaining (line_of last.row) old last (Err fault)
   stop_told last (stops.Wrong kind) fault p q e is =
-      rw (e, is) (refl, (q.0, follows_on (bytes_left remaining new) (line_number old) (line_number now) q.0 _ p q.1), refl)
+      rw (e, is) (refl, (q.0, continues_on (bytes_left remaining new) q.0 _ p q.1), refl)
   stop_told last stops.Read (faults.Read e) p q told is = rw is (breaks_on p q.0, told, refl)
   stop_told last stops.Read fault p q told is = absurd told
   stop_told last stops.OutOfMemory fault p q e is = rw (e, is) refl

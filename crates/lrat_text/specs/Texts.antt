@@ -1,5 +1,5 @@
 -- LRAT text: its lines, and how it ends.
-use Rattle.std.specs.Prelude.{ℕ, List, [], ◌∷◌, Option, Some, None, Result, Ok, Err}
+use Rattle.std.specs.Prelude.{ℕ, List, [], ◌∷◌, ◌++◌, Option, Some, None, Result, Ok, Err}
 use Rattle.sat_formula.specs.Lines.{lines_of, words_of}
 use Rattle.sat_formula.specs.Outcome.{next_line}
 use Rattle.lrat_rules.specs.Lines.{Line}
@@ -19,6 +19,10 @@ Outcome = List (ℕ × Line) × Ending
 -- an outcome after this line
 abbrev pub with_line : ℕ → Line → Outcome → Outcome
 with_line number line o = ((number, line) ∷ o.0, o.1)
+
+-- an outcome after these lines
+abbrev pub with_lines : List (ℕ × Line) → Outcome → Outcome
+with_lines ls o = (ls ++ o.0, o.1)
 
 -- an outcome after the line of this number, which says nothing, or a line, or ends it by a fault
 abbrev pub line_then : ℕ → Result (Option Line) LineKind → Outcome → Outcome

@@ -18,6 +18,7 @@ use Rattle.lrat_binary.specs.declared.proof.LratReader.{LratReader}
 use Rattle.lrat_binary.proofs.GivenLines.{HasGiven, all_said, begins_as, begins_so, given_begun, given_end, given_fault, given_more, given_start, says_as}
 use Rattle.lrat_binary.proofs.ReadLemmas.{Known}
 use Rattle.lrat_checker.specs.TextAnswers.{said}
+use Rattle.lrat_checker.proofs.TextLemmas.{said-more}
 use Rattle.lrat_to_proof.specs.Converting.{Converted, next, next_open, run, then_run, whole}
 use Rattle.lrat_to_proof.specs.Faults.{IsCause, IsGivenUp, IsRefusal, giving_up, in_line, of_text}
 use Rattle.lrat_to_proof.specs.Runs.{ConvertsLines, IsBegun, IsStopped, Leads, proof_says}
@@ -29,10 +30,6 @@ use Rattle.lrat_to_proof.specs.declared.fault.LineCause.{LineCause}
 use Rattle.lrat_to_proof.specs.declared.fault.Stop.{Stop}
 use Rattle.lrat_to_proof.specs.declared.fault.Stop.TheVariants as stops
 use Rattle.lrat_to_proof.proofs.BegunLemmas.{begun_to_end, begun_whole}
-
-said-more : (ls : List (ℕ × Line)) (n : ℕ) (l : Line) → said (ls ++ (n, l) ∷ []) ≡ said ls ++ l ∷ []
-said-more [] n l = refl
-said-more (x ∷ ls) n l = ap (λ ms. x.1 ∷ ms) (said-more ls n l)
 
 -- ---- runs
 

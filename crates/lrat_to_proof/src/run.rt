@@ -12,10 +12,9 @@ use crate::converter::Converter;
 use crate::fault::ConvertFault;
 use crate::width::HashWidth;
 use lrat_binary::{Ids, LratReader, open_proof};
-use sat_formula::{CnfFormula, LyingHeader};
+use sat_formula::{CnfFormula, LyingHeader, read_formula};
 use std::alloc::Global;
 use std::io::{Read, Write};
-use whole_formulas::read_formula;
 
 /// Writes the lines of an LRAT proof over a formula as proof bytes of version 2, up to the first
 /// line that adds the empty clause or the opposite of a unit. What follows that line is not read.

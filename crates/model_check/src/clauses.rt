@@ -2,13 +2,13 @@
 ghost use Rattle.std.specs.Prelude.{◌≡◌, ◌+◌, ℕ, List, IfErr, IfOk, [], ◌∷◌, ◌++◌, length};
 ghost use Rattle.answer_text.specs.Literals.{has_lit};
 ghost use Rattle.model_check.specs.Verdicts.{FailsText, IsJudged, IsVerdict};
-ghost use Rattle.whole_formulas.specs.Lies.{IsLie};
+ghost use Rattle.sat_formula.specs.Lies.{IsLie};
 
 use crate::verdict::Verdict;
 use crate::whole::{CutFormula, cut_of};
 use answer_text::Literals;
-use sat_formula::{DimacsFault, DimacsReader, Lit, LyingHeader};
-use std::alloc::Global;
+use sat_formula::{ClauseSink, DimacsFault, Lit, LyingHeader, read_into};
+use std::alloc::{AllocError, Global};
 use std::io::Read;
 
 /// What was found of a formula that was read to its end.
@@ -19,6 +19,32 @@ pub struct Judged {
     pub cut: Option<CutFormula>,
     /// The mismatch of its header.
     pub lie: Option<LyingHeader>,
+}
+
+/// The verdict on the clauses that were taken.
+#[derive(Drop)]
+struct ClauseJudge<'a> {
+    literals: &'a Literals,
+    verdict: Verdict,
+}
+
+/// Takes every clause: none needs memory.
+impl<'a> ClauseSink for ClauseJudge<'a> {
+    ghost use Rattle.std.specs.Prelude.{◌≡◌};
+    ghost use Rattle.answer_text.specs.Literals.{has_lit};
+    ghost use Rattle.model_check.specs.Verdicts.{IsVerdict};
+
+    type Fault = AllocError;
+
+    ghost has_taken = { λ first clauses lines judge. (judge.literals ≡ first.literals)
+        × IsVerdict (has_lit first.literals.now) clauses lines judge.verdict };
+
+    ghost has_refused = { λ first clauses fault judge. Unit {0} };
+
+    fn take(&mut self, clause: &[Lit], number: u64, line: u64) -> Result<(), AllocError> {
+        self.verdict = after_clause(self.verdict, self.literals, clause, number, line);
+        Ok(())
+    }
 }
 
 /// Reads a whole formula, a clause at a time, and returns whether each has one of the literals. The
@@ -37,18 +63,15 @@ pub fn judge<F: Read + Drop>(
     ensures lie { IfOk result (λ judged. IsLie (F.remaining cnf) judged.lie) }
     ensures fault { IfErr result (λ fault. FailsText (F.remaining cnf) fault) }
 {
-    let mut reader = DimacsReader::new(alloc, cnf);
-    let mut clause = Vec::new(alloc);
-    let mut verdict = Verdict::Verified;
-    let mut count = 0u64;
-    'clauses: while reader.next_clause(&mut clause)? {
-        count += 1;
-        verdict = after_clause(verdict, literals, &clause, count, reader.clause_line());
-    }
+    let mut judge = ClauseJudge {
+        literals,
+        verdict: Verdict::Verified,
+    };
+    let summary = read_into(alloc, cnf, &mut judge)?;
     Ok(Judged {
-        verdict,
-        cut: cut_of(reader.header(), count),
-        lie: reader.lying_header(),
+        verdict: judge.verdict,
+        cut: cut_of(summary.header, summary.counts.clauses),
+        lie: summary.lie,
     })
 }
 

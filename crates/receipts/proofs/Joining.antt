@@ -2,9 +2,9 @@
 use Rattle.std.proofs.Common.{◌≡◌, ℕ, List, [], ◌∷◌, ◌++◌, map, All, sym, ap, ◌∙◌}
 use Rattle.std.proofs.lemmas.List.Elements.{All-cons, All-contains, All-head, All-nil, All-tail}
 use Rattle.sha2.specs.Sha256.{sha256}
-use Rattle.cube_rules.specs.Cubes.{CubesCover, clause_against, units_of}
-use Rattle.cube_rules.specs.Cubes as cubes
-use Rattle.piece_rules.specs.Pieces.{PiecesJoin}
+use Rattle.refutation_rules.specs.Cubes.{CubesCover, clause_against, units_of}
+use Rattle.refutation_rules.specs.Cubes as cubes
+use Rattle.refutation_rules.specs.Pieces.{PiecesJoin}
 use Rattle.sat_formula.specs.Outcome.{Outcome}
 use Rattle.sat_formula.specs.Refuted.{IsRefuted}
 use Rattle.receipts.specs.Honesty.{IsHonest, StandsFor}

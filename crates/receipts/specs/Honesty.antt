@@ -9,7 +9,7 @@ use Rattle.sat_rules.specs.Clauses.{all_true}
 use Rattle.sat_formula.specs.Lines.{outcome_of}
 use Rattle.sat_formula.specs.Outcome.{Ended}
 use Rattle.sat_formula.specs.Refuted.{IsRefuted}
-use Rattle.piece_runs.specs.Texts.{CarriesText}
+use Rattle.verdicts.specs.Texts.{CarriesText}
 use Rattle.receipts.specs.declared.receipt.Receipt.{Receipt}
 use Rattle.receipts.specs.declared.receipt.Receipt.TheVariants.{Refuted, Carries, Satisfied}
 

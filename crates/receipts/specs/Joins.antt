@@ -9,8 +9,8 @@
 use Rattle.std.specs.Prelude.{◌≡◌, ℕ, List, [], ◌∷◌, ◌++◌, map, All}
 use Rattle.std.specs.List.{Contains}
 use Rattle.sha2.specs.Sha256.{sha256}
-use Rattle.cube_rules.specs.Cubes.{clause_against, units_of}
-use Rattle.cube_rules.specs.Cubes as cubes
+use Rattle.refutation_rules.specs.Cubes.{clause_against, units_of}
+use Rattle.refutation_rules.specs.Cubes as cubes
 use Rattle.sat_formula.specs.Lines.{outcome_of}
 use Rattle.sat_formula.specs.Outcome.{Ended}
 use Rattle.sat_formula.specs.Refuted.{IsRefuted}

@@ -2,8 +2,7 @@
 //! its clause is the law.
 ghost use Rattle.receipts.specs.Joins.{PartsAreRefuted, ShownIsRefuted};
 
-use cube_rules::laws::cubes_cover;
-use piece_rules::laws::pieces;
+use refutation_rules::laws::{cubes_cover, pieces};
 
 /// If honest receipts lead from the digest of a text to one that is refuted, no assignment
 /// satisfies the text.

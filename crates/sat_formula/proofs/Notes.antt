@@ -11,7 +11,8 @@ use Rattle.sat_formula.specs.Outcome.{Ending, Ended, Outcome}
 use Rattle.sat_formula.specs.Text.{State, past_of, Next, Clause, Stopped, Waits, next_at, at_end, past_at_end, start}
 use Rattle.sat_formula.specs.Notes.{Notes, with_line, last_notes, notes_at, notes_of}
 use Rattle.sat_formula.specs.Noting.{notes_left, IsNotes, HasNoted}
-use Rattle.sat_formula.proofs.Steps.{Known}
+use Rattle.sat_formula.specs.Readings.{Known}
+use Rattle.sat_formula.proofs.Readings.{leads_all, leads_by, said_on, ends_all, ends_as, ends_by}
 use Rattle.sat_formula.proofs.Whole.{AfterEnd, Reads, says_next}
 
 -- ---- one call
@@ -35,28 +36,24 @@ last_is t o past h k = ap (λ (x : Outcome). end_notes x (past_at_end t)) h ∙ 
 
 -- where no clause came any more
 finishes : (old new : Known) (s : State) (past : Past) (e : Ending) → Finishes old new (next_at s) past e → IfSome old (λ text. notes_at s text ≡ ([], past))
-finishes None new s past e p = tt
-finishes (Some x) None s past e (by_byte p) = absurd p.consumed
-finishes (Some x) None s past e (by_input t p h k) = absurd p.consumed
-finishes (Some x) (Some y) s past e (by_byte p) = notes_next s x ∙ ap noted (ap (next_at s) p.consumed ∙ p.same y)
-finishes (Some x) (Some y) s past e (by_input t p h k) =
-    notes_next s x ∙ ap noted (ap (next_at s) (p.consumed ∙ ap (λ (l : List ℕ). p.taken ++ l) p.ended ∙ append-nil p.taken) ∙ p.waits) ∙ last_is t ([], e) past h k
+finishes old new s past e (by_byte p) = leads_all old new ([], past) (leads_by noted (notes_next s) p (λ m. refl))
+finishes old new s past e (by_input t p h k) = ends_all old new ([], past) (ends_as (ends_by noted (notes_next s) p) (last_is t ([], e) past h k))
 
 -- the notes of what is left, after the end or before it
 abbrev left : Bool → State → Known → Option Notes
 left ended s known = if ended then Some ([], past_of s) else option_map (notes_at s) known
 
+line_noted : (known : Known) (rest : State) (n : Notes) → IsNotes (option_map (notes_at rest) known) n
+    → IfSome known (λ text. with_line (past_of rest).clause_line (notes_at rest text) ≡ with_line (past_of rest).clause_line n)
+line_noted None rest n h = tt
+line_noted (Some text) rest n h = ap (with_line (past_of rest).clause_line) h
+
 -- a clause, and what is left
 gives : (old new : Known) (s rest : State) (clause : List ℕ) (ended : Bool) (n : Notes) → GivesClause old new (next_at s) clause rest ended
     → IsNotes (left ended rest new) n → IfSome old (λ text. notes_at s text ≡ with_line (past_of rest).clause_line n)
-gives None new s rest clause ended n p h = tt
-gives (Some x) None s rest clause false n (more p) h = absurd p.consumed
-gives (Some x) None s rest clause true n (last t p e k) h = absurd p.consumed
-gives (Some x) (Some y) s rest clause false n (more p) h =
-    notes_next s x ∙ ap noted (ap (next_at s) p.consumed ∙ p.same y) ∙ ap (with_line (past_of rest).clause_line) h
-gives (Some x) (Some y) s rest clause true n (last t p e k) h =
-    notes_next s x ∙ ap noted (ap (next_at s) (p.consumed ∙ ap (λ (l : List ℕ). p.taken ++ l) p.ended ∙ append-nil p.taken) ∙ p.waits)
-    ∙ last_is t (clause ∷ [], Ended) (past_of rest) e k ∙ ap (with_line (past_of rest).clause_line) h
+gives old new s rest clause false n (more p) h = said_on old new _ (leads_by noted (notes_next s) p (λ m. refl)) (line_noted new rest n h)
+gives old new s rest clause true n (last t p e k) h =
+    ends_all old new _ (ends_as (ends_by noted (notes_next s) p) (last_is t (clause ∷ [], Ended) (past_of rest) e k ∙ ap (with_line (past_of rest).clause_line) h))
 
 of_text : (s : State) (known : Known) (n : Notes) → IfSome known (λ text. notes_at s text ≡ n) → IsNotes (option_map (notes_at s) known) n
 of_text s None n h = tt

@@ -12,10 +12,10 @@ use Rattle.sat_formula.specs.declared.past.Past.{Past}
 use Rattle.sat_formula.specs.Bytes.{is_blank, is_digit}
 use Rattle.sat_formula.specs.Words.{begun_by, number_after}
 use Rattle.sat_formula.specs.Text.{State, At, InNumber, Goes, next_at}
-use Rattle.sat_formula.specs.Taking.{Leads}
+use Rattle.sat_formula.specs.Readings.{Known, Leads}
 use Rattle.sat_formula.specs.Reading.{place_of}
 use Rattle.sat_formula.specs.ShortNumbers.{HasDigits, IsShortNumber}
-use Rattle.sat_formula.proofs.Steps.{Known, step_goes, number_runs, word_number}
+use Rattle.sat_formula.proofs.Steps.{step_goes, number_runs, word_number}
 
 -- ---- a digit
 
@@ -25,13 +25,13 @@ no_end x e = grind (arith, nat_tests)
 no_blank : (x : ℕ) → is_digit x ≡ true → is_blank x ≡ false
 no_blank x e = grind (arith, nat_tests)
 
-no_minus : (x : ℕ) → is_digit x ≡ true → (x == 45) ≡ false
+pub no_minus : (x : ℕ) → is_digit x ≡ true → (x == 45) ≡ false
 no_minus x e = grind (arith, nat_tests)
 
 not_at : (x y : ℕ) → is_digit x ≡ true → is_digit y ≡ false → x ≡ y → ⊥
 not_at x y e f z = let bad : is_digit y ≡ true = subst (λ k. is_digit k ≡ true) z e in let no = f in absurd cc
 
-digit_small : (x : ℕ) → is_digit x ≡ true → x - 48 ≤ 9
+pub digit_small : (x : ℕ) → is_digit x ≡ true → x - 48 ≤ 9
 digit_small x e = grind (arith, nat_tests, e)
 
 begun_by-digit : (x : ℕ) → is_digit x ≡ true → begun_by x ≡ Digits false (x - 48)

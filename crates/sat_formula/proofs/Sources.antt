@@ -3,10 +3,9 @@ use Rattle.std.proofs.Common.{◌≡◌, ℕ, suc, ◌+◌, ◌-◌, ◌<◌, �
 use Rattle.std.proofs.Common.{Some, None, sym, ap, ◌∙◌, refl, arith, drop-cons, add-one, append_assoc, take, drop}
 use Rattle.std.proofs.lemmas.List.{take-append-drop, drop-take, drop-drop}
 use Rattle.std.specs.Option.{option_map}
+use Rattle.std.specs.Prelude.{unwrap_or}
 use Rattle.std.specs.Io.KnownBytes.{prepend_known, Consumes, Keeps}
-
-abbrev Known : Type 0
-Known = Option (List ℕ)
+use Rattle.sat_formula.specs.Readings.{Known}
 
 consumes_front : (old known : Known) (front rest : List ℕ) (b : ℕ) → front ≡ b ∷ rest → Keeps old (prepend_known front known) → Consumes old (prepend_known rest known) (b ∷ [])
 consumes_front None known front rest b e h = tt
@@ -42,3 +41,10 @@ pub room_taken : (left : Option ℕ) (start end n : ℕ) → n ≤ end - start
     → option_map (λ l. (end - start) + l) left ≡ option_map (λ l. n + l) (option_map (λ l. (end - (start + n)) + l) left)
 room_taken None start end n le = refl
 room_taken (Some l) start end n le = let e : (end - start) + l ≡ n + ((end - (start + n)) + l) = omega arith in ap (λ (k : ℕ). Some k) e
+
+-- a byte takes one from the room
+pub room_less : (old new : Option ℕ) (n : ℕ) → old ≡ option_map suc new → old ≡ Some n → (m : ℕ) × (new ≡ Some m) × (n ≡ suc m)
+room_less old new n h e = grind arith
+
+pub room_falls : (old new : Option ℕ) (n : ℕ) → old ≡ option_map suc new → old ≡ Some n → unwrap_or new 0 < unwrap_or old 0
+room_falls old new n h e = grind arith

@@ -11,6 +11,7 @@ pub mod Past
 pub mod Text
 pub mod Source
 pub mod Stop
+pub mod Readings
 pub mod Taking
 pub mod Reading
 pub mod ShortNumbers
@@ -20,3 +21,5 @@ pub mod Notes
 pub mod Noting
 pub mod LineLaws
 pub mod Refuted
+pub mod Lies
+pub mod TakenClauses

@@ -1,8 +1,9 @@
-//! Variables, literals, formulas and DIMACS text.
+//! Variables, literals, formulas and DIMACS text, with the mismatches of its header.
 #![tactic(auto)]
 
 mod ahead;
 pub mod bytes;
+mod clauses;
 mod cnf;
 mod counts;
 mod dimacs;
@@ -11,13 +12,16 @@ mod formula;
 pub mod laws;
 pub mod lit;
 mod past;
+mod sink;
 pub mod source;
 mod text;
 mod word;
 
+pub use clauses::{read_clauses, read_into};
 pub use cnf::{CnfClauses, CnfFormula};
 pub use counts::{Counts, LyingHeader};
 pub use dimacs::DimacsReader;
 pub use fault::{DimacsFault, DimacsKind};
 pub use formula::read_formula;
 pub use lit::{Lit, Var};
+pub use sink::{ClauseSink, Summary, UntakenClause};

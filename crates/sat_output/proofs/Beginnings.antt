@@ -1,14 +1,12 @@
 -- Beginnings of texts that are written in parts.
-use Rattle.std.proofs.Common.{ℕ, ◌+◌, List, ◌++◌, length, take, Option, Result, Ok, Err, arith, length-append}
+use Rattle.std.proofs.Common.{ℕ, ◌+◌, List, ◌++◌, length, take, Result, Ok, Err, arith, length-append}
 use Rattle.std.proofs.Math.Seq.{take-append-add, take-length}
 use Rattle.std.proofs.lemmas.List.{take-append-le}
 use Rattle.std.specs.Prelude.{OnErr}
 use Rattle.std.specs.Io.KnownBytes.{Appends}
 use Rattle.std.proofs.KnownBytes.{Appends-nil, Appends-trans}
+use Rattle.sat_formula.specs.Readings.{Known}
 use Rattle.whole_writes.specs.Beginnings.{AppendsBeginning}
-
-abbrev Known : Type 0
-Known = Option (List ℕ)
 
 -- nothing was written
 pub begins_nothing : (a : Known) (bytes : List ℕ) → AppendsBeginning a a bytes

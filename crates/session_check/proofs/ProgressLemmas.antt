@@ -1,6 +1,6 @@
 -- Where a session stands after a call.
 use Rattle.std.proofs.Common.{◌≡◌, ℕ, Bool, List, ◌++◌, Option, None, Some, refl, ap, ◌∙◌}
-use Rattle.session_rules.specs.Sessions.{Satisfies}
+use Rattle.refutation_rules.specs.Sessions.{Satisfies}
 use Rattle.session_text.specs.declared.line.Status.TheVariants.{Satisfiable}
 use Rattle.session_check.specs.Interactions.{Asked, IsAnswer}
 use Rattle.session_check.specs.Progress.{Pending, Progress}

@@ -2,6 +2,7 @@
 use Rattle.std.proofs.Common.{◌≡◌, ℕ, false, List, [], ◌∷◌, ◌++◌, Option, None, Some, Result, Ok, Err, refl, sym, ap, ◌∙◌, append-nil, subst}
 use Rattle.std.specs.Io.KnownBytes.{Appends}
 use Rattle.std.proofs.KnownBytes.{Appends-nil, Appends-trans}
+pub use Rattle.sat_formula.specs.Readings.{Known}
 use Rattle.sat_output.proofs.Beginnings.{begins_past, begins_whole}
 use Rattle.whole_writes.specs.Beginnings.{AppendsBeginning}
 use Rattle.session_text.specs.declared.line.LineKind.{LineKind}
@@ -21,9 +22,6 @@ use Rattle.session_check.specs.declared.fault.Stop.TheVariants as stops
 use Rattle.session_check.specs.declared.report.Report.{Report}
 use Rattle.session_check.proofs.InteractionLemmas.{Stands, all_but_one, all_reported, lines_more, plays_more, shows_but, stands_closed, stands_on, told_more, unanswered_in, unreported_in}
 use Rattle.session_check.proofs.JoinLemmas.{fault_same, lines_begin, told_same}
-
-abbrev pub Known : Type 0
-Known = Option (List ℕ)
 
 -- what is known of the lines that were read
 abbrev pub At : Type 1

@@ -1,8 +1,9 @@
 -- The lines of one text.
-use Rattle.std.proofs.Common.{◌≡◌, ℕ, List, [], ◌∷◌, ◌++◌, Option, None, Some, Ok, Err, refl, sym, ap, ◌∙◌, append-nil, append_assoc, subst}
+use Rattle.std.proofs.Common.{◌≡◌, ℕ, List, [], ◌∷◌, ◌++◌, None, Some, Ok, Err, refl, sym, ap, ◌∙◌, append-nil, append_assoc, subst}
 use Rattle.std.specs.Prelude.{IfSome}
-use Rattle.drat_text.specs.Taking.{EndsAll, Leads}
-use Rattle.drat_text.proofs.Takings.{ends_on, leads_as, leads_nil, leads_on}
+pub use Rattle.sat_formula.specs.Readings.{Known}
+use Rattle.sat_formula.specs.Readings.{Leads}
+use Rattle.sat_formula.proofs.Readings.{ends_all, ends_on, ends_under, leads_as, leads_nil, leads_on, leads_under}
 use Rattle.session_text.specs.declared.fault.SessionTextFault.{SessionTextFault}
 use Rattle.session_text.specs.declared.fault.SessionTextFault.TheVariants as texts
 use Rattle.session_text.specs.declared.format.Format.{Format}
@@ -14,25 +15,15 @@ use Rattle.session_text.specs.Content.{no_content}
 use Rattle.session_text.specs.NextLine.{Answers, bytes_left, left_to_say, line_read, spot_of}
 use Rattle.session_text.specs.Places.{start}
 use Rattle.session_text.specs.Texts.{Ended, Ending, Faulty, Line, Outcome, outcome_at, outcome_of, with_line}
-use Rattle.session_text.proofs.ReadingLemmas.{ends_all}
 use Rattle.session_check.specs.Lines.{Begin, Make, Precede}
 use Rattle.session_check.specs.NextLine.{AheadOf, At, AtLine, behind}
 use Rattle.session_check.specs.declared.lines.Ahead.{Ahead}
 use Rattle.session_check.specs.declared.lines.Ahead.TheVariants.{End, Next, Unread}
 
-abbrev pub Known : Type 0
-Known = Option (List ℕ)
-
 -- ---- an outcome behind lines
 
 behind_more : (ls : List Line) (l : Line) (o : Outcome) → behind ls (with_line l o) ≡ behind (ls ++ l ∷ []) o
 behind_more ls l o = ap (λ (ms : List Line). (ms, o.1)) (sym (append_assoc ls (l ∷ []) o.0))
-
-leads_behind : {a b : Known} {f g : List ℕ → Outcome} (ls : List Line) → Leads a b f g → Leads a b (λ m. behind ls (f m)) (λ m. behind ls (g m))
-leads_behind ls p = record { taken = p.taken; consumed = p.consumed; same = λ m. ap (behind ls) (p.same m) }
-
-ends_behind : {a b : Known} {f : List ℕ → Outcome} {o : Outcome} (ls : List Line) → EndsAll a b f o → EndsAll a b (λ m. behind ls (f m)) (behind ls o)
-ends_behind ls p = record { taken = p.taken; consumed = p.consumed; at_end = p.at_end; same = ap (behind ls) p.same }
 
 -- the lines that were read begin the text
 text_begins : (format : Format) (a b : Known) (f : List ℕ → Outcome) (ls : List Line) → Leads a b (outcome_of format) (λ m. behind ls (f m)) → Begin format a ls
@@ -76,7 +67,7 @@ module _ {R : Type 0} (remaining : R → Known) where
   -- one line more, which is still to be taken
   pub line_at : (format : Format) (old new : SessionReader R) (kind : LineKind) (known : Known) (ls : List Line) → Answers remaining old new (Ok (Some kind)) → At remaining format old known ls →
       AtLine remaining format new kind known ls
-  line_at format old new kind known ls h p = leads_on p (leads_behind ls h.0)
+  line_at format old new kind known ls h p = leads_on p (leads_under (behind ls) h.0)
 
   pub line_begins : (format : Format) (r : SessionReader R) (kind : LineKind) (known : Known) (ls : List Line) → AtLine remaining format r kind known ls → Begin format known ls
   line_begins format r kind known ls p = text_begins format known (bytes_left remaining r) (λ m. with_line (line_read r kind) (left_to_say r m)) ls p
@@ -88,7 +79,7 @@ module _ {R : Type 0} (remaining : R → Known) where
   -- up to the end
   pub text_made : (format : Format) (old new : SessionReader R) (known : Known) (ls : List Line) → Answers remaining old new (Ok None) → At remaining format old known ls → Make format known ls
   text_made format old new known ls h p =
-      faulty_here known (outcome_of format) ls Ended (ends_all known (bytes_left remaining new) (ls ++ [], Ended) (ends_on p (ends_behind ls h)))
+      faulty_here known (outcome_of format) ls Ended (ends_all known (bytes_left remaining new) (ls ++ [], Ended) (ends_on p (ends_under (behind ls) h)))
 
   -- up to a fault
   pub text_preceded : (format : Format) (old new : SessionReader R) (fault : SessionTextFault) (known : Known) (ls : List Line) → Answers remaining old new (Err fault) → At remaining format old known ls →

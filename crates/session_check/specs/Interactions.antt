@@ -3,7 +3,7 @@
 --     interaction_of ls      what the lines of a text ask and answer
 --     IsShown q r      the report has the answer of the query, which is true where it is shown
 use Rattle.std.specs.Prelude.{◌≡◌, ℕ, List, [], ◌∷◌, ◌++◌, Option, Some, None}
-use Rattle.session_rules.specs.Sessions.{Fails, Satisfies}
+use Rattle.refutation_rules.specs.Sessions.{Fails, Satisfies}
 use Rattle.session_text.specs.declared.line.LineKind.{LineKind}
 use Rattle.session_text.specs.declared.line.LineKind.TheVariants.{Answer, Clause, Core, Deletion, Failed, Lemma, Model, Query, Several, Trail, Values, Weakening}
 use Rattle.session_text.specs.declared.line.Status.{Status}

@@ -5,7 +5,7 @@ use Rattle.sat_rules.specs.Clauses.{is_tautology}
 use Rattle.sat_rules.specs.Named.{negated_set}
 use Rattle.lrat_rules.specs.Causes.{id_taken}
 use Rattle.lrat_rules.specs.Propagation.{Ending, conflict, is_conflict, open_at, propagate, stuck}
-use Rattle.session_rules.specs.Sessions.{all_in}
+use Rattle.refutation_rules.specs.Sessions.{all_in}
 use Rattle.session_checker.specs.Refusals.{CausesAreExact, Refusal, both_signs, by_line, clause_cause, hints_cause, misses_assumption, not_assumed}
 use Rattle.session_checker.specs.Rules.{listed}
 

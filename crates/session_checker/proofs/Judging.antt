@@ -4,7 +4,7 @@ use Rattle.std.proofs.lemmas.Bool.{and_parts}
 use Rattle.std.specs.List.{list_any, list_all}
 use Rattle.sat_rules.specs.Clauses.{is_tautology, negate}
 use Rattle.lrat_rules.specs.Propagation.{propagate}
-use Rattle.session_rules.specs.Sessions.{Fails, Satisfies, all_in}
+use Rattle.refutation_rules.specs.Sessions.{Fails, Satisfies, all_in}
 use Rattle.session_checker.specs.Refusals.{both_signs, clause_cause, core_cause, hints_cause, misses_assumption, model_cause, not_assumed}
 use Rattle.session_checker.specs.Rules.{AllFollow, is_core, listed}
 use Rattle.session_checker.proofs.Exact.{causes_exact}

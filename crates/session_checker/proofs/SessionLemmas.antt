@@ -2,7 +2,7 @@
 use Rattle.std.proofs.Common.{◌≡◌, ℕ, Bool, true, cond, ◌&&◌, List, [], ◌∷◌, ◌++◌, Option, Some, None, is_none, refl, sym, ap, ◌∙◌, arith}
 use Rattle.std.proofs.lemmas.Bool.{and_parts}
 use Rattle.sat_rules.specs.Clauses.{all_true, clause_true, has}
-use Rattle.session_rules.specs.Sessions.{AllTrue, Fails, Satisfies}
+use Rattle.refutation_rules.specs.Sessions.{AllTrue, Fails, Satisfies}
 use Rattle.session_checker.specs.Lines.{Held, Line, SessionsAreTrue, after, all_accepted, cause_of, deletes, derives, events_of, fails, gives, gives_up, nothing, satisfies}
 use Rattle.session_checker.specs.Refusals.{Refusal}
 use Rattle.session_checker.specs.Rules.{AllFollow}

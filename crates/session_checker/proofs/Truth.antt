@@ -10,7 +10,7 @@ use Rattle.sat_rules.proofs.Members.{all_at, all_from, any_at, any_from, kept_fr
 use Rattle.lrat_rules.specs.Causes.{not_unit}
 use Rattle.lrat_rules.specs.Propagation.{Ending, by_left, conflict, is_conflict, on_named, propagate, stuck}
 use Rattle.lrat_rules.proofs.Propagating.{Sound, sound_is_open}
-use Rattle.session_rules.specs.Sessions.{Satisfies, all_in, lits_true}
+use Rattle.refutation_rules.specs.Sessions.{Satisfies, all_in, lits_true}
 use Rattle.session_checker.specs.Rules.{follows, is_core, is_model, listed, meets}
 
 -- ---- propagation

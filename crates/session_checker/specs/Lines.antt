@@ -7,7 +7,7 @@
 --     SessionsAreTrue      the law
 use Rattle.std.specs.Prelude.{◌≡◌, ℕ, Bool, true, ◌&&◌, ◌==◌, if◌then◌else◌, List, [], ◌∷◌, ◌++◌, Option, Some, None, is_none}
 use Rattle.sat_rules.specs.Clauses.{has}
-use Rattle.session_rules.specs.Sessions.{AllTrue, Event, asked, given, satisfiable, unknown, unsatisfiable}
+use Rattle.refutation_rules.specs.Sessions.{AllTrue, Event, asked, given, satisfiable, unknown, unsatisfiable}
 use Rattle.session_checker.specs.Refusals.{Refusal, core_cause, id_cause, lemma_cause, model_cause}
 
 -- a clause of the application;  a lemma;  ids that are deleted;  a query that failed, one that was satisfied, one without an answer

@@ -10,7 +10,7 @@ use Rattle.sat_rules.specs.Clauses.{is_tautology}
 use Rattle.sat_rules.specs.Named.{negated_set}
 use Rattle.lrat_rules.specs.Causes.{Cause, id_taken, no_conflict}
 use Rattle.lrat_rules.specs.Propagation.{Ending, conflict, open_at, propagate, stuck}
-use Rattle.session_rules.specs.Sessions.{all_in}
+use Rattle.refutation_rules.specs.Sessions.{all_in}
 use Rattle.session_checker.specs.Rules.{follows, is_core, is_model, listed}
 
 -- as a line of LRAT is rejected;  a literal of the core was not assumed;  the model has both signs of a variable;  it lacks an assumption;  it meets no literal of the clause of this number, from 1 on

@@ -3,7 +3,7 @@ use Rattle.std.specs.Prelude.{◌≡◌, ℕ, true, false, List, [], ◌∷◌, 
 use Rattle.sat_rules.specs.Clauses.{neg, pos}
 use Rattle.lrat_rules.specs.Causes.{id_taken, no_conflict, not_unit, unknown_id}
 use Rattle.lrat_rules.specs.Stores.{find, formula_store}
-use Rattle.session_rules.specs.Sessions.{asked, given, satisfiable, unknown, unsatisfiable}
+use Rattle.refutation_rules.specs.Sessions.{asked, given, satisfiable, unknown, unsatisfiable}
 use Rattle.session_checker.specs.Lines.{Line, all_accepted, deletes, derives, events_of, fails, gives, gives_up, nothing, satisfies}
 use Rattle.session_checker.specs.Refusals.{both_signs, by_line, core_cause, id_cause, lemma_cause, misses_assumption, misses_clause, model_cause, not_assumed}
 

@@ -2,7 +2,7 @@
 ghost use Rattle.std.specs.Prelude.{◌≡◌, ◌∷◌, ◌++◌, ◌==◌, ℕ, [], None, Some, is_some, if◌then◌else◌, IfErr, IfOk, OnErr, OnOk};
 ghost use Rattle.std.specs.Option.{option_copied};
 ghost use Rattle.sat_rules.specs.Clauses.{has};
-ghost use Rattle.session_rules.specs.Sessions.{Fails, Satisfies};
+ghost use Rattle.refutation_rules.specs.Sessions.{Fails, Satisfies};
 ghost use Rattle.clause_table.specs.Named.{clause_of};
 ghost use Rattle.clause_table.specs.Values.{among};
 ghost use Rattle.session_checker.specs.Causes.{IsCause};

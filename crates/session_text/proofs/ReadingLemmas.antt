@@ -1,10 +1,10 @@
 -- Bytes of a text, one after the other.
-use Rattle.std.proofs.Common.{◌≡◌, ℕ, List, [], ◌∷◌, ◌++◌, Option, None, Some, Result, Ok, Err, sym, ap, ◌∙◌, append-nil, subst}
-use Rattle.std.specs.Prelude.{IfSome, IsErrAnd}
-use Rattle.std.proofs.lemmas.Result.{err_from_is_err_and}
+use Rattle.std.proofs.Common.{◌≡◌, ℕ, List, [], ◌∷◌, Option, None, Some, Result, Ok, Err, ap}
+use Rattle.std.specs.Prelude.{IfSome}
 use Rattle.std.specs.Io.KnownBytes.{Consumes, IsAtEnd, Keeps}
-use Rattle.drat_text.specs.Taking.{EndsAll, Leads}
-use Rattle.drat_text.proofs.Takings.{end_here, leads_on}
+use Rattle.sat_formula.specs.Readings.{EndsAll, Known, Leads}
+use Rattle.sat_formula.proofs.Readings.{end_here, ends_all, leads_all}
+use Rattle.sat_formula.proofs.Readings as readings
 use Rattle.session_text.specs.declared.fault.SessionTextFault.{SessionTextFault}
 use Rattle.session_text.specs.declared.fault.SessionTextFault.TheVariants as faults
 use Rattle.session_text.specs.declared.fault.Stop.{Stop}
@@ -16,9 +16,6 @@ use Rattle.session_text.specs.declared.reader.SessionReader.{SessionReader}
 use Rattle.session_text.specs.NextLine.{Answers, bytes_left, left_to_say}
 use Rattle.session_text.specs.Reading.{Ends, IsTaken, fault_of}
 use Rattle.session_text.specs.Texts.{Ended, Ending, Faulty, Off, On, Outcome, Says, Step, ending_at, outcome_at, step, with_line}
-
-abbrev pub Known : Type 0
-Known = Option (List ℕ)
 
 -- what a byte did, and the bytes after it
 abbrev goes_on : Step → List ℕ → Outcome
@@ -32,7 +29,7 @@ goes_on d more = elim d [
 byte_on : {a b c : Known} {f : List ℕ → Outcome} (so_far : Content) (s : Spot) (x : ℕ) (d : Step) → Leads a b f (outcome_at so_far s) → Consumes b c (x ∷ []) → step so_far s x ≡ d
     → Leads a c f (goes_on d)
 unfolding outcome_at
-byte_on so_far s x d l h e = leads_on l (record { taken = x ∷ []; consumed = h; same = λ m. ap (λ (d : Step). goes_on d m) e })
+byte_on so_far s x d l h e = readings.byte_on x l h (λ m. ap (λ (d : Step). goes_on d m) e)
 
 -- it leads on
 pub byte_goes : {a b c : Known} {f : List ℕ → Outcome} (so_far : Content) (s : Spot) (x : ℕ) (more : Content) (next : Spot) → Leads a b f (outcome_at so_far s) → Consumes b c (x ∷ []) →
@@ -48,18 +45,6 @@ byte_says so_far s x more next kind l h t = byte_on so_far s x (Says (record { k
 -- this is said of all bytes, where they are known
 abbrev pub IsAll : Known → (List ℕ → Outcome) → Outcome → Type 0
 IsAll a f o = IfSome a (λ bytes. f bytes ≡ o)
-
--- what comes next does not matter
-leads_all : (a c : Known) {f : List ℕ → Outcome} (o : Outcome) → Leads a c f (λ m. o) → IsAll a f o
-leads_all None c o l = tt
-leads_all (Some t) None o l = absurd l.consumed
-leads_all (Some t) (Some z) {f} o l = ap f l.consumed ∙ l.same z
-
--- nothing comes next
-pub ends_all : (a c : Known) {f : List ℕ → Outcome} (o : Outcome) → EndsAll a c f o → IsAll a f o
-ends_all None c o l = tt
-ends_all (Some t) None o l = absurd l.consumed
-ends_all (Some t) (Some z) {f} o l = ap f (l.consumed ∙ ap (λ (m : List ℕ). l.taken ++ m) l.at_end ∙ append-nil l.taken) ∙ l.same
 
 -- what a fault says of the bytes
 abbrev pub FailsBy : Known → (List ℕ → Outcome) → SessionTextFault → Type 0
@@ -91,9 +76,6 @@ ends_by {a} c e (Ok (Some kind)) l h = absurd h
 ends_by {a} c e (Err (faults.Read error)) l h = absurd h
 ends_by {a} c e (Err (faults.Wrong line kind)) l h = rw h at (ends_all a c ([], e) l)
 ends_by {a} c e (Err faults.OutOfMemory) l h = absurd h
-
-pub exits : {X E : Type 0} (P : Result X E → Type 0) (r : Result X E) (e : E) → IsErrAnd r (λ d. d ≡ e) → P (Err e) → P r
-exits {E = E} P r e h p = let q = err_from_is_err_and r h in subst P (sym (q.1 ∙ ap (λ (d : E). Err d) q.2)) p
 
 -- what a call answers by that
 pub answers_fault : {R : Type 0} (remaining : R → Known) (old new : SessionReader R) (e : SessionTextFault) → FailsBy (bytes_left remaining old) (left_to_say old) e →

@@ -1,8 +1,7 @@
 -- What reading a stimulus gives.
 --     IsRead shape known s      the text says this stimulus
 --     FailsBy shape known fault      why no stimulus is given
-use Rattle.std.specs.Prelude.{◌≡◌, ℕ, List, ◌++◌, Option, Result, Ok, Err, IfSome}
-use Rattle.std.specs.Io.KnownBytes.{Consumes}
+use Rattle.std.specs.Prelude.{◌≡◌, ℕ, List, Option, Result, Ok, Err, IfSome}
 use Rattle.stimulus_text.specs.declared.fault.StimulusFault.{StimulusFault}
 use Rattle.stimulus_text.specs.declared.fault.StimulusFault.TheVariants as faults
 use Rattle.stimulus_text.specs.declared.fault.Stop.{Stop}
@@ -11,18 +10,12 @@ use Rattle.stimulus_text.specs.declared.spot.Shape.{Shape}
 use Rattle.stimulus_text.specs.declared.spot.Spot.{Spot}
 use Rattle.stimulus_text.specs.declared.stimulus.Stimulus.{Stimulus}
 use Rattle.stimulus_text.specs.declared.stimulus.Told as read
-use Rattle.stimulus_text.specs.Stimuli.{Told, inputs_in, told_by}
-use Rattle.stimulus_text.specs.Texts.{Outcome, Says, Faulty, Step, On, Off, outcome_of, outcome_at}
+use Rattle.stimulus_text.specs.Stimuli.{inputs_in, told_by}
+use Rattle.stimulus_text.specs.Texts.{Outcome, Says, Faulty, Step, On, Off, outcome_of}
 
 -- this is what the text says, where it is known
 abbrev pub IsOutcome : Shape → Option (List ℕ) → Outcome → Type 0
 IsOutcome shape known o = IfSome known (λ text. outcome_of shape text ≡ o)
-
--- From old to new some bytes were taken: whatever comes after them, the text says what comes from this spot on.
-pub record Leads (shape : Shape) (old new : Option (List ℕ)) (t : Told) (s : Spot) : Type 0 where
-  pub bytes : List ℕ
-  pub consumed : Consumes old new bytes
-  pub same : (more : List ℕ) → outcome_of shape (bytes ++ more) ≡ outcome_at t s more
 
 -- what a stimulus says
 abbrev pub said_by : Stimulus → Outcome

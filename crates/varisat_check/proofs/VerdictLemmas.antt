@@ -24,9 +24,10 @@ use Rattle.checker_steps.specs.Delivered.{Listeners, Listens, ListensImage}
 use Rattle.varisat_checker.specs.ProofRun.{ProofAnswer, ProofRun}
 use Rattle.varisat_checker.specs.TextRun.{EndsText, TextAnswer, TextRun, outcome_of}
 use Rattle.checker_steps.specs.Failing.{IsFailed}
+use Rattle.sat_formula.specs.Readings.{Known}
 use Rattle.sat_formula.specs.declared.counts.LyingHeader.{LyingHeader}
 use Rattle.sat_formula.specs.Refuted.{IsRefuted}
-use Rattle.whole_formulas.specs.Lies.{IsLie}
+use Rattle.sat_formula.specs.Lies.{IsLie}
 use Rattle.whole_writes.specs.Beginnings.{AppendsBeginning}
 use Rattle.varisat_check.specs.Runs.{BeginsLine, CheckRun, IsUnwritten, OnProof, RefusedText, RunTellsLie}
 use Rattle.varisat_check.specs.declared.fault.RunFault.{RunFault}
@@ -35,9 +36,6 @@ use Rattle.varisat_check.specs.Verdicts.{shown_line, verdict_of}
 use Rattle.varisat_check.specs.declared.verdict.Verdict.{Verdict}
 use Rattle.varisat_check.specs.declared.verdict.Verdict.TheVariants.{Unsatisfiable}
 use Rattle.varisat_checker.proofs.CountLemmas.{adding-failed}
-
-abbrev Known : Type 0
-Known = Option (List ℕ)
 
 -- the checker accepted the proof
 abbrev Accepts : Known → List ℕ → List Step → State → State → Type 0

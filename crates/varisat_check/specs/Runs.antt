@@ -17,7 +17,7 @@ use Rattle.checker_parts.specs.declared.error.CheckerError.TheVariants.{Failed}
 use Rattle.checker_parts.specs.declared.error.DimacsError.{DimacsError}
 use Rattle.varisat_checker.specs.ProofRun.{ProofAnswer}
 use Rattle.varisat_checker.specs.TextRun.{TextAnswer}
-use Rattle.whole_formulas.specs.Lies.{IsLie}
+use Rattle.sat_formula.specs.Lies.{IsLie}
 use Rattle.whole_writes.specs.Beginnings.{AppendsBeginning}
 use Rattle.varisat_check.specs.Verdicts.{shown_line, verdict_of}
 use Rattle.varisat_check.specs.declared.fault.RunFault.{RunFault}

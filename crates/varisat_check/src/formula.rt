@@ -1,6 +1,6 @@
 //! Formulas read whole from DIMACS text.
 ghost use Rattle.varisat_check.specs.ReadFormula.{ReadsFormula};
-ghost use Rattle.whole_formulas.specs.Lies.{TellsLie};
+ghost use Rattle.sat_formula.specs.Lies.{TellsLie};
 
 use crate::fault::RunFault;
 use checker_parts::error::DimacsError;
@@ -22,7 +22,7 @@ pub fn read_formula<F: Read + Drop>(
     ensures whole { ReadsFormula (F.remaining cnf) result }
     ensures lie { TellsLie (F.remaining cnf) result lie.new }
 {
-    match whole_formulas::read_formula(alloc, cnf, lie) {
+    match sat_formula::read_formula(alloc, cnf, lie) {
         Ok(formula) => Ok(formula),
         Err(fault) => Err(RunFault::Formula(DimacsError::from(fault))),
     }

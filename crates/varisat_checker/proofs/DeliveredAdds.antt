@@ -1,5 +1,4 @@
 -- A loop that adds clauses one after the other, and what it delivers on.
---     AddedSoFar s cs u      the clauses were all accepted, and led to u
 --     added-all, added-more, added-stops      its end, a turn, and a rejection
 --     sets-added, covers-added      what follows for the satisfying set
 --     adds-more, adds-stop      what is delivered on: at a turn, and at a clause that is rejected or meets a fault
@@ -8,21 +7,17 @@
 use Rattle.std.proofs.Common.{◌≡◌, ℕ, false, List, [], ◌∷◌, ◌++◌, map, Option, Some, None, refl, sym, ap, ◌∙◌, subst, append-nil, append_assoc, arith}
 use Rattle.std.proofs.lemmas.List.{map-append}
 use Rattle.varisat_checker.proofs.Common.{add_clauses, added, added_by, EmitsCall, EmitsCalls, adds, calls_after, NamedStep, EntailsRedundant, Cause}
-use Rattle.varisat_checker.proofs.Common.{Outcome, accept, and_then, State, Step, add_clause, emissions_join, AnswersStep, IsCovered, IsFold}
+use Rattle.varisat_checker.proofs.Common.{Outcome, and_then, State, Step, add_clause, emissions_join, AnswersStep, IsCovered, IsFold}
 use Rattle.varisat_checker.proofs.Common.{UnlessFailed, CheckerError, CheckFailed, ProofProcessorError, OutOfMemory, unless_failed, Listeners}
 use Rattle.varisat_checker.proofs.Common.{Listens, ListensImage, Delivered, DeliveredWhole, beginning-first, beginning-second, ran-append, ran-none}
 use Rattle.checker_rules.specs.Emits.{Emits, EmitsBy}
 use Rattle.checker_rules.specs.Steps.{step}
 use Rattle.checker_rules.proofs.AddedClauses.{formulas_are_fold, formulas_join}
 use Rattle.varisat_checker.proofs.CountLemmas.{add-failed}
+use Rattle.varisat_checker.specs.Added.{AddedSoFar, EmitsAdded}
 use Rattle.varisat_checker.proofs.FailingLemmas.{Answer, err_answer, ok_answer}
 
 -- ---- what is accepted
-
--- all of them were accepted, and the checker continues
-pub record AddedSoFar (s : State) (cs : List (List ℕ)) (u : State) : Type 0 where
-  pub running : u.failed ≡ false
-  pub accepted : add_clauses s cs ≡ accept u
 
 -- a rejection of the first of two parts is one of both
 stops : (o : Outcome) (next : State → Outcome) (e : CheckerError) (w : State) → AnswersStep (err_answer e) o w →
@@ -56,10 +51,6 @@ module _ (s : State) (before : List Step) (cs : List (List ℕ)) (r : Answer) (u
   covers-added covered h = unless_failed (IsCovered _) _ (formulas_are_fold.covers s before cs covered) r u h
 
 -- ---- what is emitted
-
--- what the clauses emit that are accepted of these
-abbrev pub EmitsAdded : State → List (List ℕ) → List NamedStep → Type 0
-EmitsAdded s cs = EmitsCalls s (map adds (added s cs))
 
 -- some list is emitted by all clauses
 one-emission : (s : State) (c : List ℕ) → (es : List NamedStep) × Emits s (add_clause c) es

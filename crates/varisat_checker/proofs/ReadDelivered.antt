@@ -1,8 +1,7 @@
--- What the loop over the clauses of a text reads, adds and delivers on.
---     ReadDelivered      the clauses given so far, and what was delivered on of them
---     delivered-nothing, delivered-more      the loop's start, and a turn of it
---     delivered-stops, delivered-ends, delivered-fault      how it ends
-use Rattle.std.proofs.Common.{◌≡◌, ℕ, Bool, true, false, List, [], ◌∷◌, ◌++◌, Option, Result, Ok, Err, refl}
+-- What adding the clauses of a text answers, and what is delivered on.
+--     added-none, takes-added      the start, and a clause
+--     text-ends, text-fault, text-rejected      the whole text; its fault; a clause that was not accepted
+use Rattle.std.proofs.Common.{◌≡◌, ℕ, false, List, [], ◌∷◌, ◌++◌, Option, Result, Ok, Err, refl}
 use Rattle.sat_rules.specs.Named.{Machine}
 use Rattle.varisat_checker.proofs.Common.{add_clauses, EmitsCall, adds, NamedStep, hint_steps, EntailsRedundant, State, add_clause, WellFormed}
 use Rattle.varisat_checker.proofs.Common.{AnswersStep, AnswersText, UnlessTextFailed, text_ending, CheckerError, OutOfMemory, sets_text, Listeners}
@@ -10,31 +9,53 @@ use Rattle.varisat_checker.proofs.Common.{Listens, ListensImage, Delivered, Deli
 use Rattle.checker_rules.specs.HintRun.{IsRun, machine_after}
 use Rattle.checker_rules.specs.Machine.{Mirrors}
 use Rattle.checker_rules.specs.Steps.{step}
-use Rattle.sat_formula.specs.declared.dimacs.DimacsReader.{DimacsReader}
 use Rattle.sat_formula.specs.declared.fault.DimacsFault.{DimacsFault}
 use Rattle.sat_formula.specs.declared.fault.DimacsFault.TheVariants as faults
-use Rattle.sat_formula.specs.DimacsReader.{IsNext, has_ended}
-use Rattle.sat_formula.specs.Whole.{HasGiven, outcome_left}
-use Rattle.sat_formula.proofs.Whole.{BeginsWith-given, FailsAfter-given, HasGiven-more, HasGiven-nil, IsOutcome-ended}
+use Rattle.sat_formula.specs.TakenClauses.{Takes, TakesSome, TakesWhole}
+use Rattle.sat_formula.specs.declared.sink.Summary.{Summary}
+use Rattle.sat_formula.specs.declared.sink.UntakenClause.{UntakenClause}
+use Rattle.sat_formula.specs.declared.sink.UntakenClause.TheVariants.{Text, Sink}
 use Rattle.checker_parts.specs.declared.error.DimacsError.{DimacsError}
 use Rattle.checker_parts.specs.declared.error.DimacsError.TheVariants.{Read, Malformed, Checker}
+use Rattle.varisat_checker.specs.Added.{EmitsAdded, HasAdded, HasRejected}
 use Rattle.varisat_checker.specs.TextFault.{IsTextFault}
 use Rattle.varisat_checker.specs.TextRun.{EndsText, TextRun, outcome_of}
 use Rattle.varisat_checker.proofs.CertifiedLemmas.{certifies-adds}
-use Rattle.varisat_checker.proofs.DeliveredAdds.{AddedSoFar, EmitsAdded, added-all, added-more, added-stops, adds-more, adds-stop, covers-added, sets-added}
+use Rattle.varisat_checker.proofs.DeliveredAdds.{added-all, added-more, added-stops, adds-more, adds-stop, covers-added, sets-added}
 use Rattle.varisat_checker.proofs.FailingLemmas.{err_answer, ok_answer}
 
--- the clauses that the reader gave were all accepted, and what was delivered on of them
-pub record ReadDelivered {R P T : Type 0} (remaining : R → Option (List ℕ)) (listens : Listens P) (listens_image : ListensImage T) (s : State) (first reader : DimacsReader R) (u : State) (old new : Listeners P T) : Type 0 where
-  pub clauses : List (List ℕ)
-  pub given : HasGiven remaining first clauses reader
-  pub so_far : AddedSoFar s clauses u
-  pub delivered : DeliveredWhole (EmitsAdded s clauses) listens listens_image old new
+-- ---- clause after clause
 
--- what the reader answers of its next clause: two clauses of its contract
-abbrev pub Answers : {R : Type 0} → (R → Option (List ℕ)) → DimacsReader R → DimacsReader R → List ℕ → Result Bool DimacsFault → Type 0
-Answers remaining old new clause r =
-    (has_ended old ≡ true → (r ≡ Ok false) × (new ≡ old) × (clause ≡ [])) × (has_ended old ≡ false → IsNext remaining old new clause r)
+module _ {P T : Type 0} {listens : Listens P} {listens_image : ListensImage T} {s : State} {old : Listeners P T} where
+  pub added-none : s.failed ≡ false → HasAdded listens listens_image s [] s old old
+  added-none running = record {
+    so_far = record { running = running; accepted = refl };
+    delivered = ([], refl, ran-none listens listens_image old);
+  }
+
+  module _ {u : State} {now : Listeners P T} {clauses : List (List ℕ)} (p : HasAdded listens listens_image s clauses u old now)
+      (clause : List ℕ) (w : State) (later : Listeners P T) where
+    added-one : AnswersStep ok_answer (step u (add_clause clause)) w →
+        DeliveredWhole (EmitsCall u (adds clause)) listens listens_image now later → HasAdded listens listens_image s (clauses ++ clause ∷ []) w old later
+    added-one a k = record {
+      so_far = added-more p.so_far clause w a;
+      delivered = adds-more listens listens_image _ _ p.so_far _ p.delivered _ _ k;
+    }
+
+    added-not : {e : CheckerError} → AnswersStep (err_answer e) (step u (add_clause clause)) w →
+        Delivered (err_answer e) (EmitsCall u (adds clause)) listens listens_image now later → HasRejected listens listens_image s (clauses ++ clause ∷ []) e w old later
+    added-not {e} a k = record {
+      answer = added-stops p.so_far clause [] e w a;
+      delivered = adds-stop listens listens_image _ _ p.so_far _ p.delivered _ _ [] e w a k;
+    }
+
+    pub takes-added : (r : Result (Unit {0}) CheckerError) → AnswersStep r (step u (add_clause clause)) w →
+        Delivered r (EmitsCall u (adds clause)) listens listens_image now later →
+        Takes r (HasAdded listens listens_image s (clauses ++ clause ∷ []) w old later) (λ e. HasRejected listens listens_image s (clauses ++ clause ∷ []) e w old later)
+    takes-added (Ok done) a k = added-one a k
+    takes-added (Err e) a k = added-not a k
+
+-- ---- the text
 
 -- the map is tied after the clauses that were accepted
 certifies-text : (s u : State) (clauses : List (List ℕ)) (r : Result (Unit {0}) DimacsError) → WellFormed s → AnswersText r (add_clauses s clauses) u →
@@ -43,75 +64,37 @@ certifies-text : (s u : State) (clauses : List (List ℕ)) (r : Result (Unit {0}
 certifies-text s u clauses (Err (Checker e)) form a = certifies-adds (Err e) s u clauses form a
 certifies-text s u clauses _ form a = certifies-adds (Ok tt) s u clauses form a
 
-module _ {R P T : Type 0} {remaining : R → Option (List ℕ)} {listens : Listens P} {listens_image : ListensImage T}
-    {s : State} {first : DimacsReader R} {old : Listeners P T} where
-  pub delivered-nothing : s.failed ≡ false → ReadDelivered remaining listens listens_image s first first s old old
-  delivered-nothing running = record {
-    clauses = [];
-    given = HasGiven-nil remaining first;
-    so_far = record { running = running; accepted = refl };
-    delivered = ([], refl, ran-none listens listens_image old);
+module _ {P T : Type 0} {listens : Listens P} {listens_image : ListensImage T} {known : Option (List ℕ)} {s : State} {old : Listeners P T}
+    (good : EntailsRedundant s) (form : WellFormed s) where
+  ended : {u : State} {now : Listeners P T} (clauses : List (List ℕ)) (r : Result (Unit {0}) DimacsError) → EndsText (outcome_of known) clauses r →
+      AnswersText r (add_clauses s clauses) u → DeliveredEnd (text_ending r) (EmitsAdded s clauses) listens listens_image old now →
+      TextRun known s r u listens listens_image old now
+  ended {u} clauses r text a delivered = record {
+    clauses = clauses;
+    answered = record {
+      text = text;
+      answer = a;
+      folds = λ before fold. sets_text _ _ (λ q. sets-added _ before _ q _ good fold) r a;
+      covers = λ before covered. sets_text _ _ (λ q. covers-added _ before _ q _ covered) r a;
+    };
+    delivered = delivered;
+    certified = certifies-text s u clauses r form a;
   }
 
-  module _ {u : State} {mid : DimacsReader R} {now : Listeners P T} (p : ReadDelivered remaining listens listens_image s first mid u old now)
-      (new : DimacsReader R) (clause : List ℕ) {more : Bool} (is : more ≡ true) (h : Answers remaining mid new clause (Ok more)) where
-    given-more : HasGiven remaining first (p.clauses ++ clause ∷ []) new
-    given-more = let k = rw is at h in HasGiven-more _ _ _ _ _ _ p.given k.0 k.1
-
-    -- a clause that was accepted
-    pub delivered-more : (w : State) (later : Listeners P T) → AnswersStep ok_answer (step u (add_clause clause)) w →
-        DeliveredWhole (EmitsCall u (adds clause)) listens listens_image now later → ReadDelivered remaining listens listens_image s first new w old later
-    delivered-more w later a k = record {
-      clauses = p.clauses ++ clause ∷ [];
-      given = given-more;
-      so_far = added-more p.so_far clause w a;
-      delivered = adds-more listens listens_image _ _ p.so_far _ p.delivered _ _ k;
-    }
-
-module _ {R P T : Type 0} {remaining : R → Option (List ℕ)} {listens : Listens P} {listens_image : ListensImage T}
-    {known : Option (List ℕ)} {s : State} {first : DimacsReader R}
-    {old : Listeners P T} (same : outcome_left remaining first ≡ outcome_of known)
-    (good : EntailsRedundant s) (form : WellFormed s) where
-  module _ {u : State} {mid : DimacsReader R} {now : Listeners P T} (p : ReadDelivered remaining listens listens_image s first mid u old now)
-      (new : DimacsReader R) (clause : List ℕ) where
-    ended : {w : State} {later : Listeners P T} (clauses : List (List ℕ)) (r : Result (Unit {0}) DimacsError) →
-        EndsText (outcome_left remaining first) clauses r → AnswersText r (add_clauses s clauses) w →
-        DeliveredEnd (text_ending r) (EmitsAdded s clauses) listens listens_image old later →
-        TextRun known s r w listens listens_image old later
-    ended {w} clauses r text a delivered = record {
-      clauses = clauses;
-      answered = record {
-        text = rw (← same) text;
-        answer = a;
-        folds = λ before fold. sets_text _ _ (λ q. sets-added _ before _ q _ good fold) r a;
-        covers = λ before covered. sets_text _ _ (λ q. covers-added _ before _ q _ covered) r a;
-      };
-      delivered = delivered;
-      certified = certifies-text s w clauses r form a;
-    }
-
-    -- a clause that was rejected, or that a box faulted at
-    pub delivered-stops : {more : Bool} → more ≡ true → Answers remaining mid new clause (Ok more) → {e : CheckerError} {w : State} {later : Listeners P T} →
-        AnswersStep (err_answer e) (step u (add_clause clause)) w →
-        Delivered (err_answer e) (EmitsCall u (adds clause)) listens listens_image now later →
-        TextRun {A = Unit {0}} known s (Err (Checker e)) w listens listens_image old later
-    delivered-stops is h {e} {w} {later} a k =
-        ended (p.clauses ++ clause ∷ []) (Err (Checker e)) (BeginsWith-given _ _ _ _ (given-more p new clause is h))
-        (added-stops p.so_far clause [] e w a)
-        (adds-stop listens listens_image _ _ p.so_far _ p.delivered _ _ [] e w a k)
-
-    -- the end of the text
-    pub delivered-ends : {more : Bool} → more ≡ false → Answers remaining mid new clause (Ok more) →
+  module _ (u : State) (now : Listeners P T) where
+    pub text-ends : (summary : Summary) → TakesWhole known (λ clauses lines. HasAdded listens listens_image s clauses u old now) summary →
         TextRun {A = Unit {0}} known s (Ok tt) u listens listens_image old now
-    delivered-ends is h =
-        ended p.clauses (Ok tt) (IsOutcome-ended _ _ _ new _ _ p.given (rw is at h).1) (added-all p.so_far refl) p.delivered
+    text-ends summary h = ended h.clauses (Ok tt) h.whole (added-all h.holds.so_far refl) h.holds.delivered
 
-    -- its fault
-    pub delivered-fault : (fault : DimacsFault) → Answers remaining mid new clause (Err fault) → {e : DimacsError} {w : State} → IsTextFault fault u e w →
-        TextRun {A = Unit {0}} known s (Err e) w listens listens_image old now
-    delivered-fault (faults.Read cause) h is =
-        rw is.0 (ended p.clauses (Err (Read cause)) (BeginsWith-given _ _ _ _ p.given) (added-all p.so_far is.1) p.delivered)
-    delivered-fault (faults.Malformed line kind) h is =
-        let k = FailsAfter-given _ _ _ new _ _ p.given (faults.Malformed line kind) h.0 h.1 in
-        rw is.0 (ended p.clauses (Err (Malformed line kind)) k (added-all p.so_far is.1) p.delivered)
-    delivered-fault faults.OutOfMemory h is = rw is.0 (ended p.clauses (Err (Checker OutOfMemory)) (BeginsWith-given _ _ _ _ p.given) is.1 tt)
+    module _ (why : UntakenClause CheckerError) (h : TakesSome known (λ clauses lines. HasAdded listens listens_image s clauses u old now)
+        (λ clauses e. HasRejected listens listens_image s clauses e u old now) why) where
+      -- a clause that was rejected, or that a box faulted at
+      pub text-rejected : (e : CheckerError) → why ≡ Sink e → TextRun {A = Unit {0}} known s (Err (Checker e)) u listens listens_image old now
+      text-rejected e is = let at_clause = rw is at h in ended at_clause.0 (Err (Checker e)) at_clause.1 at_clause.2.answer at_clause.2.delivered
+
+      -- the fault of the text, and the checker after it
+      pub text-fault : (fault : DimacsFault) → why ≡ Text fault → {e : DimacsError} {w : State} → IsTextFault fault u e w → TextRun {A = Unit {0}} known s (Err e) w listens listens_image old now
+      text-fault (faults.Read cause) of is = let some = rw of at h in rw is.0 (ended some.0 (Err (Read cause)) some.2 (added-all some.3.so_far is.1) some.3.delivered)
+      text-fault (faults.Malformed line kind) of is =
+          let some = rw of at h in rw is.0 (ended some.0 (Err (Malformed line kind)) some.2 (added-all some.3.so_far is.1) some.3.delivered)
+      text-fault faults.OutOfMemory of is = let some = rw of at h in rw is.0 (ended some.0 (Err (Checker OutOfMemory)) some.2 is.1 tt)

@@ -1,3 +1,4 @@
+pub mod Added
 pub mod Certified
 pub mod Common
 pub mod ProofRun

@@ -12,7 +12,9 @@ use checker_steps::context::ContextOf;
 use checker_steps::processing::ProcessingOf;
 use log::{Log, info};
 use proof_bytes::ProofStep;
-use sat_formula::{CnfFormula, DimacsFault, DimacsReader, Lit, LyingHeader};
+use sat_formula::{
+    ClauseSink, CnfFormula, DimacsFault, Lit, LyingHeader, UntakenClause, read_clauses,
+};
 use std::alloc::Global;
 use std::io::Read;
 
@@ -42,7 +44,7 @@ impl<P: ProofProcessor, T: ProofTranscriptProcessor> CheckerOf<P, T> {
     ghost use Rattle.varisat_checker.specs.Shown.{listeners, state, buffer_length, shown_literals};
     ghost use Rattle.varisat_checker.specs.TextFault.{IsTextFault};
     ghost use Rattle.varisat_checker.specs.TextRun.{TextRun};
-    ghost use Rattle.whole_formulas.specs.Lies.{TellsLie};
+    ghost use Rattle.sat_formula.specs.Lies.{TellsLie};
 
     /// Returns a checker that stores nothing. Allocates no memory.
     pub fn new(alloc: Global) -> CheckerOf<P, T>
@@ -175,21 +177,16 @@ impl<P: ProofProcessor, T: ProofTranscriptProcessor> CheckerOf<P, T> {
         if self.ctx.checker_state.failed {
             return Err(DimacsError::Checker(CheckerError::Failed));
         }
-        let mut reader = DimacsReader::new(self.alloc, input);
-        let mut clause = Vec::new(self.alloc);
-        'clauses: loop {
-            match reader.next_clause(&mut clause) {
-                Ok(true) => {}
-                Ok(false) => break,
-                Err(fault) => return Err(self.text_fault(fault)),
+        match read_clauses(self.alloc, input, self) {
+            Ok(summary) => {
+                let counts = summary.counts;
+                info!(rt; "Parsed formula with {} variables and {} clauses", counts.variables, counts.clauses);
+                *lie = summary.lie;
+                Ok(())
             }
-            if let Err(fault) = self.add_clause(&clause) {
-                return Err(DimacsError::Checker(fault));
-            }
+            Err(UntakenClause::Text(fault)) => Err(self.text_fault(fault)),
+            Err(UntakenClause::Sink(fault)) => Err(DimacsError::Checker(fault)),
         }
-        info!(rt; "Parsed formula with {} variables and {} clauses", reader.var_count(), reader.clause_count());
-        *lie = reader.lying_header();
-        Ok(())
     }
 
     /// Returns the error for a fault of a formula's text. If memory ran out, the checker has
@@ -340,6 +337,27 @@ impl<P: ProofProcessor, T: ProofTranscriptProcessor> CheckerOf<P, T> {
         let clauses = &self.ctx.clauses;
         let length = clauses.literal_buffer.len();
         (length, length - clauses.garbage_size)
+    }
+}
+
+/// A checker adds each clause that it takes.
+#[tactic(auto, unfolding(crate::specs::Shown::state, crate::specs::Shown::listeners))]
+impl<P: ProofProcessor, T: ProofTranscriptProcessor> ClauseSink for CheckerOf<P, T> {
+    ghost use Rattle.varisat_checker.specs.Added.{HasAdded, HasRejected};
+    ghost use Rattle.varisat_checker.specs.Shown.{listeners, state};
+
+    type Fault = CheckerError;
+
+    ghost has_taken = { λ first clauses lines checker. HasAdded P.ProofProcessor
+        T.ProofTranscriptProcessor (state first) clauses (state checker) (listeners first)
+        (listeners checker) };
+
+    ghost has_refused = { λ first clauses fault checker. HasRejected P.ProofProcessor
+        T.ProofTranscriptProcessor (state first) clauses fault (state checker) (listeners first)
+        (listeners checker) };
+
+    fn take(&mut self, clause: &[Lit], number: u64, line: u64) -> Result<(), CheckerError> {
+        self.add_clause(clause)
     }
 }
 

@@ -1,3 +1,4 @@
 pub mod Pieces
 pub mod Statuses
 pub mod Verdicts
+pub mod Texts

@@ -4,7 +4,7 @@ ghost use Rattle.session_checker.specs.Causes.{IsCause};
 ghost use Rattle.session_checker.specs.Refusals.{Refusal};
 ghost use Rattle.session_check.specs.Interactions.{FailsAsTold, once_more};
 ghost use Rattle.session_check.specs.Progress.{IsOwnReason, IsReason};
-ghost use Rattle.session_rules.specs.Sessions.{Fails, Satisfies};
+ghost use Rattle.refutation_rules.specs.Sessions.{Fails, Satisfies};
 ghost use Rattle.session_text.specs.declared.line.Status.TheVariants as statuses;
 
 use crate::fault::{LineCause, Stop};

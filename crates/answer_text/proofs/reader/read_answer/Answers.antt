@@ -1,10 +1,13 @@
 use Rattle.std.proofs.Common.{[]}
 use Rattle.std.specs.Prelude.{IfErr}
 use Rattle.std.proofs.lemmas.Bool.{false≢true}
+use Rattle.sat_formula.proofs.Exits.{exits}
+use Rattle.sat_formula.proofs.Readings.{leads_nil}
+use Rattle.sat_formula.proofs.Sources.{room_falls, room_less}
 use Rattle.answer_text.specs.Reading.{FailsBy}
 use Rattle.answer_text.specs.Places.{after}
 use Rattle.answer_text.proofs.ConsistencyLemmas.{taken_consistent}
-use Rattle.answer_text.proofs.ReadingLemmas.{leads_nil, byte_on, ends_ill, ends_well, exits, fails_taken, room_falls, room_less}
+use Rattle.answer_text.proofs.ReadingLemmas.{byte_on, ends_ill, ends_well, fails_taken}
 use Rattle.answer_text.proofs.reader.read_answer.Goals as goal
 
 pub bytes-init : goal.bytes-init
@@ -14,7 +17,7 @@ bytes-init g c = record {
     lits = [];
     apart = λ m t n. false≢true t;
     has = c.new-literals.ensures;
-    leads = rw (c.limited-source.ensures.bytes, c.start-spot.ensures) (leads_nil _);
+    leads = rw (c.limited-source.ensures.bytes, c.start-spot.ensures) (leads_nil _ _);
   };
 }
 

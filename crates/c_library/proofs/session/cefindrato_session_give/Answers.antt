@@ -1,6 +1,6 @@
 use Rattle.std.proofs.Common.{◌∷◌, ◌++◌, [], ap, sym, ◌∙◌}
 use Rattle.std.specs.Option.{option_map}
-use Rattle.handle_parts.specs.Numbers.{lits_of}
+use Rattle.handles.specs.Numbers.{lits_of}
 use Rattle.c_library.proofs.AcceptedCalls.{accepted}
 use Rattle.c_library.proofs.session.cefindrato_session_give.Goals as goal
 

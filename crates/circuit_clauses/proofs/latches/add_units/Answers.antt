@@ -1,5 +1,5 @@
 use Rattle.std.proofs.Common.{[], ◌∷◌}
-use Rattle.cube_rules.specs.Cubes.{units_of}
+use Rattle.refutation_rules.specs.Cubes.{units_of}
 use Rattle.circuit_clauses.proofs.MachineLemmas.{one_more, units_last}
 use Rattle.circuit_clauses.proofs.latches.add_units.Goals as goal
 

@@ -1,5 +1,5 @@
 use Rattle.std.proofs.Common.{◌≡◌, ◌++◌, take}
-use Rattle.cube_rules.specs.Cubes.{units_of}
+use Rattle.refutation_rules.specs.Cubes.{units_of}
 use Rattle.circuit_clauses.proofs.latches.add_units.Given as goal
 
 abbrev pub invariant-loop-lit : goal.invariant-loop-lit

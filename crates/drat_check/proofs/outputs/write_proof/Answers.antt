@@ -2,7 +2,7 @@ use Rattle.std.proofs.Common.{sym, ◌∙◌}
 use Rattle.std.proofs.KnownBytes.{Keeps-refl}
 use Rattle.std.proofs.lemmas.Bool.{false_from_ne_true}
 use Rattle.drat_check.specs.Outputs.{bytes_in}
-use Rattle.piece_runs.specs.Texts.{IsUnsatisfiable}
+use Rattle.verdicts.specs.Texts.{IsUnsatisfiable}
 use Rattle.drat_check.proofs.WrittenLines.{began_after, on_err, on_ok, wrote}
 use Rattle.drat_check.proofs.outputs.write_proof.Goals as goal
 

@@ -3,7 +3,7 @@ use Rattle.std.proofs.KnownBytes.{Keeps-refl}
 use Rattle.std.proofs.lemmas.Bool.{false_from_ne_true}
 use Rattle.verdicts.specs.declared.piece.PieceVerdict.TheVariants.{Refuted, Carried}
 use Rattle.drat_check.specs.Outputs.{bytes_in}
-use Rattle.piece_runs.specs.Texts.{IsPieceShown}
+use Rattle.verdicts.specs.Texts.{IsPieceShown}
 use Rattle.drat_check.proofs.WrittenLines.{began_after, wrote}
 use Rattle.drat_check.proofs.WrittenPieces.{began_without_steps, ended, shown_by, without_steps, wrote_piece}
 use Rattle.drat_check.proofs.piece.show_piece.Goals as goal

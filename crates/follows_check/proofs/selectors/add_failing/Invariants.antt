@@ -1,5 +1,5 @@
 use Rattle.std.proofs.Common.{◌≡◌, ◌+◌, length}
-use Rattle.follow_rules.specs.Follows.{follow_clauses}
+use Rattle.refutation_rules.specs.Follows.{follow_clauses}
 use Rattle.follows_check.specs.Questions.{first_free}
 use Rattle.follows_check.proofs.Selecting.{IsSoFar}
 use Rattle.follows_check.proofs.selectors.add_failing.Given as goal

@@ -1,5 +1,5 @@
 use Rattle.std.proofs.Common.{◌≡◌, ℕ, ◌*◌, ◌++◌, drop}
-use Rattle.follow_rules.specs.Follows.{selector_clauses}
+use Rattle.refutation_rules.specs.Follows.{selector_clauses}
 use Rattle.follows_check.proofs.selectors.add_selector.Given as goal
 
 -- with the clauses of the literals to come they are all

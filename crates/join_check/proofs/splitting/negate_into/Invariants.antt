@@ -1,5 +1,5 @@
 use Rattle.std.proofs.Common.{◌≡◌, ◌++◌, drop}
-use Rattle.cube_rules.specs.Cubes.{clause_against}
+use Rattle.refutation_rules.specs.Cubes.{clause_against}
 use Rattle.join_check.proofs.splitting.negate_into.Given as goal
 
 -- with the negations of the literals to come it is all

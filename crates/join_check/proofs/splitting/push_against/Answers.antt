@@ -1,5 +1,5 @@
 use Rattle.std.proofs.Common.{map}
-use Rattle.cube_rules.specs.Cubes.{clause_against}
+use Rattle.refutation_rules.specs.Cubes.{clause_against}
 use Rattle.join_check.proofs.Hashing.{takes_first}
 use Rattle.join_check.proofs.splitting.push_against.Goals as goal
 

@@ -1,5 +1,5 @@
 use Rattle.std.proofs.Common.{map}
-use Rattle.cube_rules.specs.Cubes.{clause_against}
+use Rattle.refutation_rules.specs.Cubes.{clause_against}
 use Rattle.sat_output.specs.FormulaTexts.{clauses_text}
 use Rattle.join_check.specs.Hashed.{Takes}
 use Rattle.join_check.specs.declared.line_hasher.LineHasher.{LineHasher}

@@ -1,6 +1,6 @@
 use Rattle.std.proofs.Common.{[], ◌∷◌, ◌+◌, drop, sym}
 use Rattle.std.proofs.lemmas.List.{drop_more}
-use Rattle.cube_rules.specs.Cubes.{units_of}
+use Rattle.refutation_rules.specs.Cubes.{units_of}
 use Rattle.join_check.proofs.Hashing.{takes_first}
 use Rattle.join_check.proofs.splitting.push_units.Goals as goal
 

@@ -1,5 +1,5 @@
 use Rattle.std.proofs.Common.{drop}
-use Rattle.cube_rules.specs.Cubes.{units_of}
+use Rattle.refutation_rules.specs.Cubes.{units_of}
 use Rattle.sat_output.specs.FormulaTexts.{clauses_text}
 use Rattle.join_check.specs.Hashed.{Takes}
 use Rattle.join_check.specs.declared.line_hasher.LineHasher.{LineHasher}

@@ -2,8 +2,9 @@ use Rattle.std.proofs.Common.{ℕ, Ok, Err, refl}
 use Rattle.lrat_binary.specs.Places.{Outside}
 use Rattle.drat_text.specs.Taking.{source_of}
 use Rattle.lrat_binary.proofs.DraftLemmas.{letter_on, line_on}
-use Rattle.drat_text.proofs.Takings.{error_is}
-use Rattle.lrat_binary.proofs.Takings.{leads_nil, no_byte}
+use Rattle.sat_formula.proofs.Exits.{error_is}
+use Rattle.sat_formula.proofs.Readings.{leads_nil}
+use Rattle.lrat_binary.proofs.Takings.{no_byte}
 use Rattle.lrat_binary.proofs.binary.read_line.Goals as goal
 
 pub returns-in_err-letter-clause-read : goal.returns-in_err-letter-clause-read

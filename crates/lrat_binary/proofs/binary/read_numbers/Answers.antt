@@ -1,13 +1,13 @@
 use Rattle.std.proofs.Common.{Ok, Err, rules}
 use Rattle.drat_text.specs.Places.{ninth_last}
-use Rattle.lrat_text.proofs.LineLemmas.{leads_on}
 use Rattle.lrat_binary.specs.Drafts.{line_of, slot_of}
 use Rattle.lrat_binary.specs.Places.{Gives, Goes, Within, said}
 use Rattle.drat_text.specs.Taking.{source_of}
 use Rattle.lrat_binary.proofs.CodeLemmas.{code_read}
 use Rattle.lrat_binary.proofs.DraftLemmas.{code_faulty}
-use Rattle.drat_text.proofs.Takings.{error_is}
-use Rattle.lrat_binary.proofs.Takings.{leads_nil, on_as, stopped_on}
+use Rattle.sat_formula.proofs.Exits.{error_is}
+use Rattle.sat_formula.proofs.Readings.{leads_nil, leads_on}
+use Rattle.lrat_binary.proofs.Takings.{on_as, stopped_on}
 use Rattle.lrat_binary.proofs.binary.read_numbers.Goals as goal
 
 pub numbers-init : goal.numbers-init

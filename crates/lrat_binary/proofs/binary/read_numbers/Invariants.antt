@@ -1,5 +1,5 @@
 use Rattle.std.proofs.Common.{ℕ, ◌≤◌}
-use Rattle.lrat_text.specs.Taking.{Leads}
+use Rattle.sat_formula.specs.Readings.{Leads}
 use Rattle.lrat_binary.specs.Drafts.{slot_of}
 use Rattle.lrat_binary.specs.Lines.{outcome_at}
 use Rattle.lrat_binary.specs.Places.{Within}

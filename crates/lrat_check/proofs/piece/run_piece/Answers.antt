@@ -1,5 +1,5 @@
 use Rattle.std.proofs.Common.{refl}
-use Rattle.piece_runs.proofs.Reading.{of_formulas}
+use Rattle.verdicts.proofs.Reading.{of_formulas}
 use Rattle.lrat_check.specs.Pieces.{BeginsShown, ShowsMissing}
 use Rattle.lrat_check.proofs.PieceLemmas.{read_carries, read_lies, read_refutes, read_run}
 use Rattle.lrat_check.proofs.piece.run_piece.Goals as goal

@@ -1,4 +1,4 @@
-use Rattle.session_text.proofs.ReadingLemmas.{exits}
+use Rattle.sat_formula.proofs.Exits.{exits}
 use Rattle.session_check.proofs.RunLemmas.{finish_cut}
 use Rattle.session_check.specs.Progress.{progress_of}
 use Rattle.session_check.specs.Runs.{Finishes, at_last_line, at_report}

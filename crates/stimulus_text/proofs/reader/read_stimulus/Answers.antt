@@ -1,12 +1,15 @@
 use Rattle.std.specs.Prelude.{IfErr}
+use Rattle.sat_formula.proofs.Exits.{exits}
+use Rattle.sat_formula.proofs.Readings.{leads_nil}
+use Rattle.sat_formula.proofs.Sources.{room_falls, room_less}
 use Rattle.stimulus_text.specs.Reading.{FailsBy}
-use Rattle.stimulus_text.proofs.ReadingLemmas.{leads_nil, byte_on, ends_ill, ends_well, exits, fails_taken, room_falls, room_less}
+use Rattle.stimulus_text.proofs.ReadingLemmas.{byte_on, ends_ill, ends_well, fails_taken}
 use Rattle.stimulus_text.proofs.reader.read_stimulus.Goals as goal
 
 pub bytes-init : goal.bytes-init
 bytes-init g c = record {
   room = (_, c.limited-source.ensures.room);
-  read = rw (c.limited-source.ensures.bytes, c.new-told.ensures, c.start-spot.ensures) (leads_nil c.args.shape _);
+  read = rw (c.limited-source.ensures.bytes, c.new-told.ensures, c.start-spot.ensures) (leads_nil _ _);
 }
 
 pub bytes-preserved : goal.bytes-preserved

@@ -1,6 +1,6 @@
 use Rattle.std.proofs.Common.{IsTrue}
 use Rattle.lrat_rules.specs.Stores.{find}
-use Rattle.piece_rules.proofs.Joining.{piece_carries}
+use Rattle.refutation_rules.proofs.Joining.{piece_carries}
 use Rattle.lrat_checker.specs.Held.{table_of}
 use Rattle.lrat_checker.proofs.NameLemmas.{named_as}
 use Rattle.lrat_checker.proofs.checker.LratChecker.holds.Goals as goal

@@ -1,6 +1,8 @@
 use Rattle.std.proofs.Common.{Err, refl, rules, sym, ◌∙◌}
 use Rattle.sat_formula.specs.Reading.{ReadsWord}
-use Rattle.sat_formula.proofs.Steps.{exits, no_byte, byte_goes, byte_stops, leads_nil, leads_on, word_on}
+use Rattle.sat_formula.proofs.Readings.{leads_nil, leads_on}
+use Rattle.sat_formula.proofs.Exits.{exits}
+use Rattle.sat_formula.proofs.Steps.{no_byte, byte_goes, byte_stops, word_on}
 use Rattle.sat_formula.proofs.Steps.{word_end, word_goes, word_lf, word_blank, word_number}
 use Rattle.sat_formula.proofs.text.Text.word_by_bytes.Goals as goal
 use Rattle.sat_formula.proofs.text.Text.word_by_bytes.Goals.{then-not-self+else-byte-eq99+else-byte-eq37+else-byte-eq112, else-not-self}

@@ -3,7 +3,8 @@ use Rattle.drat_text.specs.Taking.{unread_bytes}
 use Rattle.session_text.specs.Content.{content_of}
 use Rattle.session_text.specs.NextLine.{Answers}
 use Rattle.session_text.specs.Texts.{ending_at}
-use Rattle.session_text.proofs.ReadingLemmas.{answers_end, answers_fault, byte_fails, byte_goes, byte_says, ends_by, exits, text_ends}
+use Rattle.sat_formula.proofs.Exits.{exits}
+use Rattle.session_text.proofs.ReadingLemmas.{answers_end, answers_fault, byte_fails, byte_goes, byte_says, ends_by, text_ends}
 use Rattle.session_text.proofs.reader.SessionReader.next_line.Goals as goal
 
 pub returns-in_err-kind-in-Ok-clause-reads : goal.returns-in_err-kind-in-Ok-clause-reads

@@ -1,2 +1,0 @@
-mod RowsFacts
-pub mod Selectors

@@ -1,5 +1,0 @@
-use Rattle.follow_rules.proofs.Selectors.{follows_is_asked}
-use Rattle.follow_rules.proofs.laws.follows_is_asked.Goals as goal
-
-pub returns : goal.returns
-returns c = follows_is_asked

@@ -1,3 +1,0 @@
-pub mod Follows
-pub mod Minimal
-pub mod Rows

@@ -1,2 +1,0 @@
-pub mod TellLemmas
-pub mod RowsFacts

@@ -1,0 +1,3 @@
+pub mod SessionAsBox
+pub mod CheckerAsBox
+pub mod CheckerCallLemmas

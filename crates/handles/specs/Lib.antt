@@ -1,0 +1,11 @@
+pub mod Numbers
+pub mod SessionAnswers
+pub mod SessionCauses
+pub mod SessionHeld
+pub mod SessionPlaces
+pub mod CheckerAnswers
+pub mod CheckerCalls
+pub mod CheckerHeld
+pub mod CheckerPlaces
+pub mod CheckerStates
+pub mod CheckerSteps

@@ -1,0 +1,11 @@
+pub mod Cubes
+pub mod Carrying
+pub mod Pieces
+pub mod PieceRows
+pub mod Copies
+pub mod Rounds
+pub mod SessionRows
+pub mod Sessions
+pub mod Follows
+pub mod Minimal
+pub mod FollowRows

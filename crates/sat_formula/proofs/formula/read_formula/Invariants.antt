@@ -1,9 +1,0 @@
-use Rattle.sat_formula.specs.DimacsReader.{bytes_left}
-use Rattle.sat_formula.specs.Whole.{HasGiven}
-use Rattle.sat_formula.proofs.formula.read_formula.Given as goal
-
-abbrev pub invariant-clauses : goal.invariant-clauses
-invariant-clauses g l = HasGiven g.F.Read.remaining l.initial.reader l.formula l.reader
-
-abbrev pub decreases-clauses : goal.decreases-clauses
-decreases-clauses g l = bytes_left l.reader

@@ -1,4 +1,0 @@
-pub mod Answers
-pub mod Causes
-pub mod Held
-pub mod Places

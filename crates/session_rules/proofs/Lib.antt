@@ -1,5 +1,0 @@
-mod AnswerLemmas
-mod CopyLemmas
-mod NameLemmas
-mod RoundLemmas
-mod RowsFacts

@@ -1,5 +1,0 @@
-use Rattle.session_rules.proofs.AnswerLemmas.{answers_are_true}
-use Rattle.session_rules.proofs.laws.answers_are_true.Goals as goal
-
-pub returns : goal.returns
-returns c = answers_are_true

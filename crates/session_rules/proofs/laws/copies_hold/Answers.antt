@@ -1,5 +1,0 @@
-use Rattle.session_rules.proofs.CopyLemmas.{copies_hold}
-use Rattle.session_rules.proofs.laws.copies_hold.Goals as goal
-
-pub returns : goal.returns
-returns c = copies_hold

@@ -1,5 +1,0 @@
-use Rattle.session_rules.proofs.RoundLemmas.{rounds_fail}
-use Rattle.session_rules.proofs.laws.rounds_fail.Goals as goal
-
-pub returns : goal.returns
-returns c = rounds_fail

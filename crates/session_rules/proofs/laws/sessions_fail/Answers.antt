@@ -1,5 +1,0 @@
-use Rattle.session_rules.proofs.NameLemmas.{sessions_fail}
-use Rattle.session_rules.proofs.laws.sessions_fail.Goals as goal
-
-pub returns : goal.returns
-returns c = sessions_fail

@@ -1,4 +1,0 @@
-pub mod Copies
-pub mod Rounds
-pub mod Rows
-pub mod Sessions

@@ -1,2 +1,0 @@
-pub mod Lies
-pub mod Given
