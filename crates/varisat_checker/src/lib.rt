@@ -19,6 +19,7 @@ pub use checker_parts::step::{
 pub mod checker;
 pub mod clauses;
 pub mod proof;
+mod sink;
 pub mod state;
 
 pub use checker_parts::{sorted_lits, transcript};
