@@ -12,9 +12,7 @@ use checker_steps::context::ContextOf;
 use checker_steps::processing::ProcessingOf;
 use log::{Log, info};
 use proof_bytes::ProofStep;
-use sat_formula::{
-    ClauseSink, CnfFormula, DimacsFault, Lit, LyingHeader, UntakenClause, read_clauses,
-};
+use sat_formula::{CnfFormula, DimacsFault, Lit, LyingHeader, UntakenClause, read_clauses};
 use std::alloc::Global;
 use std::io::Read;
 
@@ -337,27 +335,6 @@ impl<P: ProofProcessor, T: ProofTranscriptProcessor> CheckerOf<P, T> {
         let clauses = &self.ctx.clauses;
         let length = clauses.literal_buffer.len();
         (length, length - clauses.garbage_size)
-    }
-}
-
-/// A checker adds each clause that it takes.
-#[tactic(auto, unfolding(crate::specs::Shown::state, crate::specs::Shown::listeners))]
-impl<P: ProofProcessor, T: ProofTranscriptProcessor> ClauseSink for CheckerOf<P, T> {
-    ghost use Rattle.varisat_checker.specs.Added.{HasAdded, HasRejected};
-    ghost use Rattle.varisat_checker.specs.Shown.{listeners, state};
-
-    type Fault = CheckerError;
-
-    ghost has_taken = { λ first clauses lines checker. HasAdded P.ProofProcessor
-        T.ProofTranscriptProcessor (state first) clauses (state checker) (listeners first)
-        (listeners checker) };
-
-    ghost has_refused = { λ first clauses fault checker. HasRejected P.ProofProcessor
-        T.ProofTranscriptProcessor (state first) clauses fault (state checker) (listeners first)
-        (listeners checker) };
-
-    fn take(&mut self, clause: &[Lit], number: u64, line: u64) -> Result<(), CheckerError> {
-        self.add_clause(clause)
     }
 }
 

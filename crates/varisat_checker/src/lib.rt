@@ -21,6 +21,8 @@ pub mod clauses;
 pub mod proof;
 pub mod state;
 
+mod sink;
+
 pub use checker_parts::{sorted_lits, transcript};
 pub use checker_steps::{check, context, steps};
 pub use clause_store::{laws, rup};

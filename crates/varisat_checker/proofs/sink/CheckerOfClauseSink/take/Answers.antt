@@ -1,5 +1,5 @@
 use Rattle.varisat_checker.proofs.ReadDelivered.{takes-added}
-use Rattle.varisat_checker.proofs.checker.CheckerOfClauseSink.take.Goals as goal
+use Rattle.varisat_checker.proofs.sink.CheckerOfClauseSink.take.Goals as goal
 
 pub returns : goal.returns
 returns g c = λ first clauses lines p number place.
