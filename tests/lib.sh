@@ -37,12 +37,13 @@ set -- "${operands[@]}"
 
 top=$(cd "$(dirname "${BASH_SOURCE[0]}")/.." && pwd)
 work=$(mktemp -d)
-trap '[[ $BASHPID != "$$" ]] || leave "$?"' EXIT
+trap 'leave "$?"' EXIT
 wrong=0
 cases_ended=0
 
 # leave STATUS: at the end of a script, whose cases were tried if it ends well
 leave() {
+  [[ $BASHPID == "$$" ]] || return 0
   rm -rf "$work" "$work.begun"
   if [[ $1 == 0 && $cases_ended == 0 && ${#case_names[@]} -gt 0 ]]; then
     echo 'WRONG the cases were not tried: try_cases is not the last line'
@@ -78,7 +79,7 @@ try_cases() {
 try_case() {
   set -e
   case_shell=$BASHPID case_how=begun wrong=0
-  trap '[[ $BASHPID != "$case_shell" ]] || end_case "$?" "$BASH_COMMAND"' EXIT
+  trap 'end_case "$?" "$BASH_COMMAND"' EXIT
   cd "$PWD"
   "case_$case_now"
   case_how=ended
@@ -86,6 +87,7 @@ try_case() {
 
 # end_case STATUS COMMAND: says how a case ended, which may be by this command
 end_case() {
+  [[ $BASHPID == "$case_shell" ]] || return 0
   if [[ $case_how == begun ]]; then
     echo "WRONG $case_now: it ended with status $1, by: $2"
     exit 1
