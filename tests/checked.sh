@@ -25,7 +25,7 @@ if (($# == 0)); then
     wait "$pid" || wrong=1
     sed "s/^/${pids[$pid]}: /" "$work/${pids[$pid]}"
   done
-  cases_ended=1
+  cases_begun=1
   exit "$wrong"
 fi
 
