@@ -15,23 +15,14 @@ quiet() {
   }
 }
 
-# one version everywhere
 versions=$(
   sed -n 's/^#define CEFINDRATO_VERSION "\(.*\)"$/\1/p' "$top/bindings/c/cefindrato.h"
   sed -n 's/^version = "\(.*\)"$/\1/p' "$top/bindings/rust/Cargo.toml" "$top/bindings/python/pyproject.toml"
   sed -n 's/^__version__ = "\(.*\)"$/\1/p' "$top/bindings/python/cefindrato/__init__.py"
 )
-if [[ $(sort -u <<< "$versions" | wc -l) != 1 || $(wc -l <<< "$versions") != 4 ]]; then
-  echo "versions of header, Rust and Python: $versions"
-  exit 1
-fi
 version=${versions%%$'\n'*}
-if ! grep -q "^const VERSION: &str = \"$version " "$top/crates/command/src/status.rt"; then
-  echo "the programs have another version than $version"
-  exit 1
-fi
 
-# a folder with what is installed of the library
+# A folder with what is installed of the library.
 prefix=$work/prefix
 mkdir -p "$prefix/lib/pkgconfig" "$prefix/include"
 "$top/bindings/build.sh" "$prefix/lib"
@@ -48,51 +39,90 @@ export PKG_CONFIG_PATH=$prefix/lib/pkgconfig
 library=$prefix/lib/libcefindrato.a
 header=$prefix/include
 
-# other libraries of the toolchain define the names that are hidden here
-checker=cefindrato_checker session=cefindrato_session
-wanted="${checker}_add_clause ${checker}_begin ${checker}_check_step ${checker}_end ${checker}_unsat cefindrato_drat_check \
-cefindrato_lrat_check cefindrato_model_check ${session}_begin ${session}_delete ${session}_derive ${session}_end ${session}_fails \
-${session}_give ${session}_satisfies cefindrato_version "
-for names in "nm -g $library" "nm -D $prefix/lib/libcefindrato.so"; do
-  exported=$($names --defined-only | awk 'NF == 3 { print $3 }' | sort | tr '\n' ' ')
-  if [[ $exported != "$wanted" ]]; then
-    echo "visible by $names: $exported"
-    exit 1
-  fi
-done
-
+ln -s libcefindrato.so "$prefix/lib/libcefindrato.so.0"
 cc -std=c99 -O2 -Wall -Wextra -Werror -pthread -I"$header" -o "$work/c" "$own/test.c" "$library"
-"$work/c" "$cnf" "$proof"
-cc -g -fsanitize=address,undefined -fno-sanitize-recover=all -pthread -I"$header" -o "$work/checked" "$own/test.c" "$library"
-"$work/checked" "$cnf" "$proof"
-# what is kept behind a handle, in all orders of calls
 for name in session checker; do
   cc -std=c99 -O2 -Wall -Wextra -Werror -I"$header" -o "$work/$name" "$own/$name.c" "$library"
-  "$work/$name"
-  cc -g -fsanitize=address,undefined -fno-sanitize-recover=all -I"$header" -o "$work/${name}_checked" "$own/$name.c" "$library"
-  "$work/${name}_checked" 5
-  cc -std=c99 -O2 -Wall -Wextra -Werror -I"$header" -o "$work/${name}_example" "$top/bindings/c/${name}_example.c" "$library"
 done
+cc -std=c99 -O2 -Wall -Wextra -Werror -I"$header" -Wl,--wrap=malloc,--wrap=realloc -o "$work/memory" "$own/memory.c" "$library"
+mkdir "$work/bin"
+ln -s "$top/tools/checked" "$work/bin/"
+for program in drat_check lrat_check model_check session_check; do
+  if [[ -x $top/crates/${program}_main/out/${program}_main ]]; then
+    ln -s "$top/crates/${program}_main/out/${program}_main" "$work/bin/$program"
+  else
+    echo "$program is not built: not tried"
+  fi
+done
+queries=$'unsatisfiable under -1 and -3: shown\nsatisfiable under -3: shown'
+export PYTHONDONTWRITEBYTECODE=1
+cd "$work"
+
+# says PROGRAM OUTPUT
 says() {
   if [[ $("$1") != "$2" ]]; then
-    echo "$1: $("$1")"
-    exit 1
+    fault "$1: $("$1")"
   fi
 }
-queries=$'unsatisfiable under -1 and -3: shown\nsatisfiable under -3: shown'
-says "$work/session_example" $'unsatisfiable under -2: shown\nsatisfiable: shown'
-says "$work/checker_example" "$queries"
-cc -std=c99 -O2 -Wall -Wextra -Werror -I"$header" -Wl,--wrap=malloc,--wrap=realloc -o "$work/memory" "$own/memory.c" "$library"
-"$work/memory"
-if has valgrind; then
+
+# One version everywhere.
+case_versions() {
+  if [[ $(sort -u <<< "$versions" | wc -l) != 1 || $(wc -l <<< "$versions") != 4 ]]; then
+    fault "versions of header, Rust and Python: $versions"
+  fi
+  if ! grep -q "^const VERSION: &str = \"$version " "$top/crates/command/src/status.rt"; then
+    fault "the programs have another version than $version"
+  fi
+}
+
+# Other libraries of the toolchain define the names that are hidden here.
+case_names() {
+  checker=cefindrato_checker session=cefindrato_session
+  wanted="${checker}_add_clause ${checker}_begin ${checker}_check_step ${checker}_end ${checker}_unsat cefindrato_drat_check \
+cefindrato_lrat_check cefindrato_model_check ${session}_begin ${session}_delete ${session}_derive ${session}_end ${session}_fails \
+${session}_give ${session}_satisfies cefindrato_version "
+  for names in "nm -g $library" "nm -D $prefix/lib/libcefindrato.so"; do
+    exported=$($names --defined-only | awk 'NF == 3 { print $3 }' | sort | tr '\n' ' ')
+    if [[ $exported != "$wanted" ]]; then
+      fault "visible by $names: $exported"
+    fi
+  done
+}
+
+case_c() {
+  "$work/c" "$cnf" "$proof"
+  cc -g -fsanitize=address,undefined -fno-sanitize-recover=all -pthread -I"$header" -o "$work/checked" "$own/test.c" "$library"
+  "$work/checked" "$cnf" "$proof"
+}
+
+# What is kept behind a handle, in all orders of calls.
+case_handles() {
+  for name in session checker; do
+    "$work/$name"
+    cc -g -fsanitize=address,undefined -fno-sanitize-recover=all -I"$header" -o "$work/${name}_checked" "$own/$name.c" "$library"
+    "$work/${name}_checked" 5
+    cc -std=c99 -O2 -Wall -Wextra -Werror -I"$header" -o "$work/${name}_example" "$top/bindings/c/${name}_example.c" "$library"
+  done
+  says "$work/session_example" $'unsatisfiable under -2: shown\nsatisfiable: shown'
+  says "$work/checker_example" "$queries"
+}
+
+case_memory() {
+  "$work/memory"
+}
+
+case_valgrind() {
+  only_with valgrind
   valgrind -q --leak-check=full --error-exitcode=9 "$work/c" "$cnf" "$proof"
   valgrind -q --leak-check=full --error-exitcode=9 "$work/memory"
   for name in session checker; do
     valgrind -q --leak-check=full --error-exitcode=9 "$work/$name" 3
   done
   valgrind -q --tool=helgrind --error-exitcode=9 "$work/c" "$cnf" "$proof"
-fi
-if has c++; then
+}
+
+case_cpp() {
+  only_with c++
   c++ -O2 -Wall -Werror -pthread -x c++ -I"$header" -o "$work/c_as_cpp" "$own/test.c" -x none "$library"
   "$work/c_as_cpp" "$cnf" "$proof"
   c++ -std=c++17 -g -fsanitize=address,undefined -fno-sanitize-recover=all -Wall -Wextra -Werror -pthread -I"$header" -o "$work/cpp" \
@@ -107,21 +137,21 @@ if has c++; then
   done
   c++ -std=c++17 -O2 -Wall -Wextra -Werror -I"$header" -o "$work/cpp_example" "$top/bindings/cpp/checker_example.cpp" "$library"
   says "$work/cpp_example" "$queries"
-fi
+}
 
-# projects outside the repository: C by pkg-config, and by the static library alone
-cd "$work"
-if has pkg-config; then
+# A project outside the repository, in C by pkg-config, and by the static library alone.
+case_project() {
+  only_with pkg-config
   eval "flags=($(pkg-config --cflags cefindrato)) libraries=($(pkg-config --libs cefindrato))"
   cc "${flags[@]}" -o project "$own/project.c" "${libraries[@]}"
-  ln -s libcefindrato.so "$prefix/lib/libcefindrato.so.0"
   LD_LIBRARY_PATH=$prefix/lib ./project
   cc "${flags[@]}" -o project_alone "$own/project.c" "$library"
   ./project_alone
-fi
+}
 
-# Rust: the crate's own tests in a copy, and a project that names it by its path, which runs without the library's folder
-if has cargo && has pkg-config; then
+# Rust: the crate's own tests in a copy, and a project that names it by its path, which runs without the library's folder.
+case_rust() {
+  only_with cargo pkg-config
   cp -R "$top/bindings/rust" "$work/crate"
   export CARGO_TARGET_DIR=$work/target CARGO_NET_OFFLINE=true
   quiet cargo test -q --manifest-path "$work/crate/Cargo.toml"
@@ -136,40 +166,41 @@ if has cargo && has pkg-config; then
   LD_LIBRARY_PATH=$prefix/lib "$work/target/debug/project"
   if PKG_CONFIG_PATH=$work/none PKG_CONFIG_LIBDIR=$work/none cargo build -q --manifest-path "$work/rust_project/Cargo.toml" > said 2>&1 ||
     ! grep -q 'libcefindrato is not found: install it' said; then
-    echo "without a library: $(cat said)"
-    exit 1
+    fault "without a library: $(cat said)"
   fi
-fi
+}
 
-# Python: the package as it stands, also by the programs that were built, and as pip installs it in an environment of its own, without
-# a network
-mkdir "$work/bin"
-ln -s "$top/tools/checked" "$work/bin/"
-for program in drat_check lrat_check model_check session_check; do
-  if [[ -x $top/crates/${program}_main/out/${program}_main ]]; then
-    ln -s "$top/crates/${program}_main/out/${program}_main" "$work/bin/$program"
-  else
-    echo "$program is not built: not tried"
-  fi
-done
-if has python3; then
-  export PYTHONDONTWRITEBYTECODE=1
+# Python: the package as it stands.
+case_python() {
+  only_with python3
   CEFINDRATO_LIBRARY=$prefix/lib/libcefindrato.so PYTHONPATH=$top/bindings/python python3 "$own/test.py" "$cnf" "$proof"
+}
+
+# The same by the programs that were built.
+case_programs() {
+  only_with python3
   CEFINDRATO_LIBRARY=$prefix/lib/libcefindrato.so PYTHONPATH=$top/bindings/python PATH=$work/bin:$PATH \
     python3 "$top/tests/release/wheel.py" "$top/tests/data"
-  # sessions of queries by the session, by the ported checker, and by the program
-  if [[ -x $work/bin/session_check ]]; then
-    mkdir "$work/judged"
-    tar -xJf "$top/tests/sessions/judged.tar.xz" -C "$work/judged"
-    CEFINDRATO_LIBRARY=$prefix/lib/libcefindrato.so PYTHONPATH=$top/bindings/python \
-      python3 "$top/tests/sessions/handles.py" "$work/bin/session_check" "$work/judged" 1 "${SESSIONS:-300}"
-  fi
-  if has pkg-config && python3 -m venv "$work/venv" > "$work/said" 2>&1; then
-    cp -R "$top/bindings/python" "$work/package"
-    quiet "$work/venv/bin/pip" install -q --no-index --no-build-isolation --disable-pip-version-check "$work/package"
-    env -u PKG_CONFIG_PATH "$work/venv/bin/python" "$own/test.py" "$cnf" "$proof"
-    quiet "$work/venv/bin/pip" uninstall -q -y cefindrato
-  else
-    echo 'no venv here: not tried'
-  fi
-fi
+}
+
+# Sessions of queries by the session, by the ported checker, and by the program.
+case_sessions() {
+  only_with python3
+  [[ -x $work/bin/session_check ]] || untried 'session_check is not built'
+  mkdir "$work/judged"
+  tar -xJf "$top/tests/sessions/judged.tar.xz" -C "$work/judged"
+  CEFINDRATO_LIBRARY=$prefix/lib/libcefindrato.so PYTHONPATH=$top/bindings/python \
+    python3 "$top/tests/sessions/handles.py" "$work/bin/session_check" "$work/judged" 1 "${SESSIONS:-300}"
+}
+
+# As pip installs it in an environment of its own, without a network.
+case_pip() {
+  only_with python3 pkg-config
+  python3 -m venv "$work/venv" > "$work/said" 2>&1 || untried 'no venv here'
+  cp -R "$top/bindings/python" "$work/package"
+  quiet "$work/venv/bin/pip" install -q --no-index --no-build-isolation --disable-pip-version-check "$work/package"
+  env -u PKG_CONFIG_PATH "$work/venv/bin/python" "$own/test.py" "$cnf" "$proof"
+  quiet "$work/venv/bin/pip" uninstall -q -y cefindrato
+}
+
+try_cases

@@ -8,10 +8,7 @@
 set -euo pipefail
 . "$(dirname "$0")/lib.sh"
 needs drat_check drat_cut
-if ! command -v valgrind > "$work/where"; then
-  echo 'valgrind is not installed: not tried'
-  exit 0
-fi
+only_with valgrind
 
 # files KIND COUNT: a formula and a proof
 files() {
@@ -48,9 +45,24 @@ grows() {
   fi
 }
 
-grows drat_check one_pivot 10000 20000
-for program in drat_check drat_cut; do
-  grows "$program" false_in_turn 10000 20000
-  grows "$program" one_bucket 30000 42426
-done
-exit "$wrong"
+case_one_pivot() {
+  grows drat_check one_pivot 10000 20000
+}
+
+case_false_in_turn() {
+  grows drat_check false_in_turn 10000 20000
+}
+
+case_one_bucket() {
+  grows drat_check one_bucket 30000 42426
+}
+
+case_cut_false_in_turn() {
+  grows drat_cut false_in_turn 10000 20000
+}
+
+case_cut_one_bucket() {
+  grows drat_cut one_bucket 30000 42426
+}
+
+try_cases

@@ -221,7 +221,6 @@ whole() {
 close_streams() {
   local mask warning='warning: the header of four.cnf is p cnf 1 4, but what was read is p cnf 2 4'
   cd "$work"
-  printf 'p cnf 1 4\n1 2 0\n1 -2 0\n-1 2 0\n-1 -2 0\n' > four.cnf
   printf '1 0\n0\n' > four.drat
   printf 'p cnf 1 2\n1 2 0\n-1 2 0\n' > two.cnf
   echo '2 0' > two.answer
@@ -285,7 +284,6 @@ sized() {
 bound_reads() {
   local fault='formula: error reading formula' program bytes
   cd "$work"
-  printf 'MemTotal:       64 kB\nMemFree:        3 kB\nMemAvailable:   10 kB\n' > little
   echo '1 0' > one
   : > nothing
   too_large 'an endless formula, by varisat_check' /dev/zero 'error reading formula' "$check" /dev/zero "$proof"
@@ -314,39 +312,14 @@ bound_reads() {
   wait
 }
 
-for name in par10.whole board6.whole grid5.whole grid5.v2; do
-  cnf=$data/${name%.*}.cnf
-  proof=$data/$name.proof
-  size=$(stat -c %s "$cnf")
-  fail_reads_of_formula "$check" '' "$size" "$cnf" "$proof"
-  fail_reads_of_proof "$size" "$cnf" "$proof" "$(stat -c %s "$proof")"
-  for most in 1 2 7 4095; do
-    failing "SHORT_READS=$most" "$check" "$cnf" "$proof"
-    wants "$proof, $most bytes a read" 0 's UNSATISFIABLE' ''
-  done
-done
 cnf=$data/par10.cnf
 lrat=$data/par10.lrat
 size=$(stat -c %s "$cnf")
-fail_reads_of_hints "$size" "$cnf" "$lrat" "$(stat -c %s "$lrat")"
+proof=$data/par10.whole.proof
 # the added clauses of the proof, as DRAT text and as binary DRAT
 drat=$work/drat
 sed '/ d /d;s/^[0-9]* //;s/^0 .*/0/;s/ 0 .*/ 0/' "$lrat" > "$drat"
 python3 -B "$top/tests/failing_files/binary.py" < "$drat" > "$work/binary"
-fail_reads_of_text "$lrat_check" "$size" "$cnf" "$lrat" "$(stat -c %s "$lrat")"
-for proof in "$drat" "$work/binary"; do
-  fail_reads_of_text "$drat_check" "$size" "$cnf" "$proof" "$(stat -c %s "$proof")"
-done
-fail_reads_of_formula "$lrat_check" 'formula: ' "$size" "$cnf" "$lrat"
-fail_reads_of_formula "$drat_check" 'formula: ' "$size" "$cnf" "$drat"
-for most in 1 2 7 4095; do
-  failing "SHORT_READS=$most" "$lrat_check" "$cnf" "$lrat"
-  wants "$lrat, $most bytes a read" 0 's VERIFIED UNSAT' ''
-  for proof in "$drat" "$work/binary"; do
-    failing "SHORT_READS=$most" "$drat_check" "$cnf" "$proof"
-    wants "$proof, $most bytes a read" 0 's VERIFIED UNSAT' ''
-  done
-done
 # each variable makes the next one true
 {
   echo 'p cnf 60 59'
@@ -359,68 +332,121 @@ done
   echo "v $(seq -s ' ' 60) 0"
 } > "$work/answer"
 echo '1 2 -3 0' > "$work/unmet"
-fail_reads_of_answer "$work/chain.cnf" "$work/answer"
-name_unmet "$work/chain.cnf" "$work/unmet"
-counted 'reads'
+printf 'p cnf 1 4\n1 2 0\n1 -2 0\n-1 2 0\n-1 -2 0\n' > "$work/four.cnf"
+printf 'MemTotal:       64 kB\nMemFree:        3 kB\nMemAvailable:   10 kB\n' > "$work/little"
 
-proof=$data/par10.whole.proof
-"$check" "$cnf" "$proof" "$work/whole" > "$work/out"
-fail_writes
-fail_outputs
-counted 'writes'
+case_proofs() {
+  for name in par10.whole board6.whole grid5.whole grid5.v2; do
+    cnf=$data/${name%.*}.cnf
+    proof=$data/$name.proof
+    size=$(stat -c %s "$cnf")
+    fail_reads_of_formula "$check" '' "$size" "$cnf" "$proof"
+    fail_reads_of_proof "$size" "$cnf" "$proof" "$(stat -c %s "$proof")"
+    for most in 1 2 7 4095; do
+      failing "SHORT_READS=$most" "$check" "$cnf" "$proof"
+      wants "$proof, $most bytes a read" 0 's UNSATISFIABLE' ''
+    done
+  done
+  counted 'reads of proofs'
+}
 
-printf 'MemAvailable:   1000000000 kB\n' > "$work/much"
-endless 'comments' <(yes 'c no clause') "$proof"
-endless 'clauses' <(yes '1 0') "$proof"
-endless 'a token' <(yes 1 | tr -d '\n') "$proof"
-endless 'NUL bytes' /dev/zero "$proof"
-endless 'steps' "$cnf" <(yes $'\x09\x40' | tr -d '\n')
-mkfifo "$work/silent"
-endless 'a pipe that no one writes' "$work/silent" "$proof"
-timeout 10 dd if="$proof" of="$work/silent" status=none 2> /dev/null &
-failing '' "$check" "$cnf" "$work/silent"
-wants 'a pipe with a proof' 0 's UNSATISFIABLE' ''
-failing '' bash -c 'ulimit -v 300000; "$0" - "$1" < <(yes 1)' "$check" "$proof"
-wants 'a clause that never ends, in little memory' 1 '' $'out of memory\nin standard input'
-printf '\x03\xff\xff\xff\x7f\x0d' > "$work/last_var"
-failing '' bash -c 'ulimit -v 300000; "$0" "$1" "$2"' "$check" "$cnf" "$work/last_var"
-refused 'the last variable there may be, in little memory' "$work/last_var" 'out of memory'
-bound_reads
-counted 'files that never end, or ask for too much'
+case_texts() {
+  fail_reads_of_hints "$size" "$cnf" "$lrat" "$(stat -c %s "$lrat")"
+  fail_reads_of_text "$lrat_check" "$size" "$cnf" "$lrat" "$(stat -c %s "$lrat")"
+  for proof in "$drat" "$work/binary"; do
+    fail_reads_of_text "$drat_check" "$size" "$cnf" "$proof" "$(stat -c %s "$proof")"
+  done
+  fail_reads_of_formula "$lrat_check" 'formula: ' "$size" "$cnf" "$lrat"
+  fail_reads_of_formula "$drat_check" 'formula: ' "$size" "$cnf" "$drat"
+  for most in 1 2 7 4095; do
+    failing "SHORT_READS=$most" "$lrat_check" "$cnf" "$lrat"
+    wants "$lrat, $most bytes a read" 0 's VERIFIED UNSAT' ''
+    for proof in "$drat" "$work/binary"; do
+      failing "SHORT_READS=$most" "$drat_check" "$cnf" "$proof"
+      wants "$proof, $most bytes a read" 0 's VERIFIED UNSAT' ''
+    done
+  done
+  counted 'reads of texts'
+}
 
-# 22 MB of clauses, and 101 MB of hints in one line: that a file is long is no fault
-yes '1 -2 3 -4 5 -6 7 0' | head -n 1100000 > "$work/clauses" || true
-printf '\x0d' > "$work/end"
-: > "$work/nothing"
-failing '' "$check" "$work/clauses" "$work/end"
-wants 'many clauses, by varisat_check' 3 's NOT SHOWN' ''
-for program in "$hint_check" "$lrat_check" "$drat_check"; do
-  failing '' "$program" "$work/clauses" "$work/nothing"
-  wants "many clauses, by $program" 3 's NOT VERIFIED' ''
-done
-echo '2 -3 7 0' > "$work/seven"
-failing '' "$model_check" "$work/clauses" "$work/seven"
-wants 'many clauses, by model_check' 0 's VERIFIED SAT' ''
-printf '1 0\n-1 0\n' > "$work/units"
-{
-  printf '3 0 1 2'
-  head -c 101000000 /dev/zero | tr '\0' ' '
-  printf '0\n'
-} > "$work/hints"
-for program in "$hint_check" "$lrat_check"; do
-  failing '' "$program" "$work/units" "$work/hints"
-  wants "a long line of hints, by $program" 0 's VERIFIED UNSAT' ''
-done
-counted 'long files'
+case_answers() {
+  fail_reads_of_answer "$work/chain.cnf" "$work/answer"
+  name_unmet "$work/chain.cnf" "$work/unmet"
+  counted 'reads of answers'
+}
 
-close_streams
-counted 'streams that are closed'
+case_writes() {
+  "$check" "$cnf" "$proof" "$work/whole" > "$work/out"
+  fail_writes
+  fail_outputs
+  counted 'writes'
+}
 
-# shellcheck source=/dev/null
-. "$top/tests/failing_files/claims.sh"
-fail_reads_of_claims
-fail_writes_of_claims
-close_streams_of_claims
-bound_reads_of_claims
-counted 'claims'
-exit "$wrong"
+case_endless() {
+  printf 'MemAvailable:   1000000000 kB\n' > "$work/much"
+  endless 'comments' <(yes 'c no clause') "$proof"
+  endless 'clauses' <(yes '1 0') "$proof"
+  endless 'a token' <(yes 1 | tr -d '\n') "$proof"
+  endless 'NUL bytes' /dev/zero "$proof"
+  endless 'steps' "$cnf" <(yes $'\x09\x40' | tr -d '\n')
+  mkfifo "$work/silent"
+  endless 'a pipe that no one writes' "$work/silent" "$proof"
+  timeout 10 dd if="$proof" of="$work/silent" status=none 2> /dev/null &
+  failing '' "$check" "$cnf" "$work/silent"
+  wants 'a pipe with a proof' 0 's UNSATISFIABLE' ''
+  failing '' bash -c 'ulimit -v 300000; "$0" - "$1" < <(yes 1)' "$check" "$proof"
+  wants 'a clause that never ends, in little memory' 1 '' $'out of memory\nin standard input'
+  printf '\x03\xff\xff\xff\x7f\x0d' > "$work/last_var"
+  failing '' bash -c 'ulimit -v 300000; "$0" "$1" "$2"' "$check" "$cnf" "$work/last_var"
+  refused 'the last variable there may be, in little memory' "$work/last_var" 'out of memory'
+  counted 'files that never end, or ask for too much'
+}
+
+case_bounds() {
+  bound_reads
+  counted 'files beside free memory'
+}
+
+# 22 MB of clauses, and 101 MB of hints in one line: that a file is long is no fault.
+case_long() {
+  yes '1 -2 3 -4 5 -6 7 0' | head -n 1100000 > "$work/clauses" || true
+  printf '\x0d' > "$work/end"
+  : > "$work/nothing"
+  failing '' "$check" "$work/clauses" "$work/end"
+  wants 'many clauses, by varisat_check' 3 's NOT SHOWN' ''
+  for program in "$hint_check" "$lrat_check" "$drat_check"; do
+    failing '' "$program" "$work/clauses" "$work/nothing"
+    wants "many clauses, by $program" 3 's NOT VERIFIED' ''
+  done
+  echo '2 -3 7 0' > "$work/seven"
+  failing '' "$model_check" "$work/clauses" "$work/seven"
+  wants 'many clauses, by model_check' 0 's VERIFIED SAT' ''
+  printf '1 0\n-1 0\n' > "$work/units"
+  {
+    printf '3 0 1 2'
+    head -c 101000000 /dev/zero | tr '\0' ' '
+    printf '0\n'
+  } > "$work/hints"
+  for program in "$hint_check" "$lrat_check"; do
+    failing '' "$program" "$work/units" "$work/hints"
+    wants "a long line of hints, by $program" 0 's VERIFIED UNSAT' ''
+  done
+  counted 'long files'
+}
+
+case_closed() {
+  close_streams
+  counted 'streams that are closed'
+}
+
+case_claims() {
+  # shellcheck source=/dev/null
+  . "$top/tests/failing_files/claims.sh"
+  fail_reads_of_claims
+  fail_writes_of_claims
+  close_streams_of_claims
+  bound_reads_of_claims
+  counted 'claims'
+}
+
+try_cases

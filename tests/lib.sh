@@ -37,14 +37,15 @@ set -- "${operands[@]}"
 
 top=$(cd "$(dirname "${BASH_SOURCE[0]}")/.." && pwd)
 work=$(mktemp -d)
-trap '[[ $BASHPID != "$$" ]] || leave "$?"' EXIT
+trap 'leave "$?"' EXIT
 wrong=0
-cases_ended=0
+cases_begun=0
 
 # leave STATUS: at the end of a script, whose cases were tried if it ends well
 leave() {
+  [[ $BASHPID == "$$" ]] || return 0
   rm -rf "$work" "$work.begun"
-  if [[ $1 == 0 && $cases_ended == 0 && ${#case_names[@]} -gt 0 ]]; then
+  if [[ $1 == 0 && $cases_begun == 0 && ${#case_names[@]} -gt 0 ]]; then
     echo 'WRONG the cases were not tried: try_cases is not the last line'
     exit 1
   fi
@@ -54,6 +55,7 @@ leave() {
 # or was before, and where a command of a case fails, which ends that case.
 try_cases() {
   local case_now case_status cases_wrong=()
+  cases_begun=1
   cp -a "$work" "$work.begun"
   ((wrong == 0)) || cases_wrong+=('what is before the cases')
   ((${#cases_asked[@]} > 0)) || cases_asked=("${case_names[@]}")
@@ -67,7 +69,6 @@ try_cases() {
     set -e
     ((case_status == 0)) || cases_wrong+=("$case_now")
   done
-  cases_ended=1
   if ((${#cases_wrong[@]} > 0)); then
     echo "WRONG cases: ${cases_wrong[*]}"
     return 1
@@ -78,7 +79,7 @@ try_cases() {
 try_case() {
   set -e
   case_shell=$BASHPID case_how=begun wrong=0
-  trap '[[ $BASHPID != "$case_shell" ]] || end_case "$?" "$BASH_COMMAND"' EXIT
+  trap 'end_case "$?" "$BASH_COMMAND"' EXIT
   cd "$PWD"
   "case_$case_now"
   case_how=ended
@@ -86,6 +87,7 @@ try_case() {
 
 # end_case STATUS COMMAND: says how a case ended, which may be by this command
 end_case() {
+  [[ $BASHPID == "$case_shell" ]] || return 0
   if [[ $case_how == begun ]]; then
     echo "WRONG $case_now: it ended with status $1, by: $2"
     exit 1
@@ -102,7 +104,7 @@ end_case() {
 # untried WHY: the case ends here, since something is missing
 untried() {
   echo "$1: not tried"
-  case_how=untried cases_ended=1
+  case_how=untried cases_begun=1
   exit 0
 }
 

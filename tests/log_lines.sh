@@ -7,6 +7,10 @@ set -euo pipefail
 . "$(dirname "$0")/lib.sh"
 data=$top/tests/data
 needs varisat_check drat_check lrat_check hint_check follows_check minimal_check
+printf 'p cnf 2 4\n1 2 0\n1 -2 0\n-1 2 0\n-1 -2 0\n' > "$work/cnf"
+printf '5 1 0 1 2 0\n6 0 5 3 4 0\n' > "$work/lrat"
+printf 'd 1 2 3 0\n1 0\n' > "$work/drat"
+printf 'd 1 2 3 0\n1 x 0\n' > "$work/malformed"
 
 # logs NAME SETTING VERDICT PROGRAM FILE FILE LINE..: a run under a setting of the environment, `unset` for none, has this
 # verdict and logs these lines, which are patterns of grep, behind a level and a module
@@ -36,18 +40,16 @@ are_lines() {
   done
 }
 
-parsed="Parsed formula with $(awk '$1 == "p" { print $3 " variables and " $4 " clauses" }' "$data/par10.cnf")"
-grid=('s UNSATISFIABLE' varisat_check "$data"/par10.{cnf,whole.proof})
-logs unset unset "${grid[@]}"
-logs info info "${grid[@]}" "$parsed"
-logs warn warn "${grid[@]}"
-logs off off "${grid[@]}"
-logs of_the_checker varisat_checker=info "${grid[@]}" "$parsed"
-logs of_another_crate another=info "${grid[@]}"
-
-printf 'p cnf 2 4\n1 2 0\n1 -2 0\n-1 2 0\n-1 -2 0\n' > "$work/cnf"
-printf '5 1 0 1 2 0\n6 0 5 3 4 0\n' > "$work/lrat"
-printf 'd 1 2 3 0\n1 0\n' > "$work/drat"
+case_log() {
+  parsed="Parsed formula with $(awk '$1 == "p" { print $3 " variables and " $4 " clauses" }' "$data/par10.cnf")"
+  grid=('s UNSATISFIABLE' varisat_check "$data"/par10.{cnf,whole.proof})
+  logs unset unset "${grid[@]}"
+  logs info info "${grid[@]}" "$parsed"
+  logs warn warn "${grid[@]}"
+  logs off off "${grid[@]}"
+  logs of_the_checker varisat_checker=info "${grid[@]}" "$parsed"
+  logs of_another_crate another=info "${grid[@]}"
+}
 
 # slow FILE: its bytes, the last one after four times the time from one report to the next: a program may begin late
 slow() {
@@ -75,35 +77,37 @@ tells() {
 }
 
 read='proof: 0\.0 MB read'
-tells drat_unasked off '' 's VERIFIED UNSAT' drat_check "$work"/{cnf,drat}
-tells drat_quiet off '' 's VERIFIED UNSAT' drat_check "$work"/{cnf,drat} --quiet
-tells drat_verbose off "$read" 's VERIFIED UNSAT' drat_check "$work"/{cnf,drat} --verbose
-tells drat_logged info "\[INFO +drat_check\] $read" 's VERIFIED UNSAT' drat_check "$work"/{cnf,drat} --quiet
-tells drat_logged_by_name drat_check=info "\[INFO +drat_check\] $read" 's VERIFIED UNSAT' drat_check "$work"/{cnf,drat}
-tells drat_of_another_program lrat_check=info '' 's VERIFIED UNSAT' drat_check "$work"/{cnf,drat}
-tells lrat_unasked off '' 's VERIFIED UNSAT' lrat_check "$work"/{cnf,lrat}
-tells lrat_verbose off "$read" 's VERIFIED UNSAT' lrat_check "$work"/{cnf,lrat} --verbose
-tells lrat_logged info "\[INFO +lrat_check\] $read" 's VERIFIED UNSAT' lrat_check "$work"/{cnf,lrat}
-tells hint_verbose off "$read" 's VERIFIED UNSAT' hint_check "$work"/{cnf,lrat} --verbose
-printf 'p cnf 2 2\n1 0\n2 0\n' > "$work/claims"
-printf '1 2 0\n1 -2 0\n-1 2 0\n-1 -2 0\n' > "$work/core"
-printf -- '-1 -2 0\n-1 2 0\n1 -2 0\n1 2 0\n' > "$work/models"
-claims=('s VERIFIED FOLLOWS' follows_check "$work/cnf $work/claims" "$work/drat")
-core=('s VERIFIED MINIMAL' minimal_check "$work/core" "$work/drat" "$work/models")
-tells follows_unasked off '' "${claims[@]}"
-tells follows_quiet off '' "${claims[@]}" --quiet
-tells follows_verbose off "$read" "${claims[@]}" --verbose
-tells follows_logged info "\[INFO +follows_check\] $read" "${claims[@]}"
-tells minimal_unasked off '' "${core[@]}"
-tells minimal_verbose off "$read" "${core[@]}" --verbose
-tells minimal_logged info "\[INFO +minimal_check\] $read" "${core[@]}"
-tells varisat_verbose off "$read" 's UNSATISFIABLE' varisat_check "$data"/par10.{cnf,whole.proof} --verbose
 
-# on a terminal one line is written anew, and taken back before the verdict's
-back=$'\r\x1b[K'
-if ! command -v script > "$work/where"; then
-  echo 'script is not there: nothing is tried on a terminal'
-else
+case_progress() {
+  tells drat_unasked off '' 's VERIFIED UNSAT' drat_check "$work"/{cnf,drat}
+  tells drat_quiet off '' 's VERIFIED UNSAT' drat_check "$work"/{cnf,drat} --quiet
+  tells drat_verbose off "$read" 's VERIFIED UNSAT' drat_check "$work"/{cnf,drat} --verbose
+  tells drat_logged info "\[INFO +drat_check\] $read" 's VERIFIED UNSAT' drat_check "$work"/{cnf,drat} --quiet
+  tells drat_logged_by_name drat_check=info "\[INFO +drat_check\] $read" 's VERIFIED UNSAT' drat_check "$work"/{cnf,drat}
+  tells drat_of_another_program lrat_check=info '' 's VERIFIED UNSAT' drat_check "$work"/{cnf,drat}
+  tells lrat_unasked off '' 's VERIFIED UNSAT' lrat_check "$work"/{cnf,lrat}
+  tells lrat_verbose off "$read" 's VERIFIED UNSAT' lrat_check "$work"/{cnf,lrat} --verbose
+  tells lrat_logged info "\[INFO +lrat_check\] $read" 's VERIFIED UNSAT' lrat_check "$work"/{cnf,lrat}
+  tells hint_verbose off "$read" 's VERIFIED UNSAT' hint_check "$work"/{cnf,lrat} --verbose
+  printf 'p cnf 2 2\n1 0\n2 0\n' > "$work/claims"
+  printf '1 2 0\n1 -2 0\n-1 2 0\n-1 -2 0\n' > "$work/core"
+  printf -- '-1 -2 0\n-1 2 0\n1 -2 0\n1 2 0\n' > "$work/models"
+  claims=('s VERIFIED FOLLOWS' follows_check "$work/cnf $work/claims" "$work/drat")
+  core=('s VERIFIED MINIMAL' minimal_check "$work/core" "$work/drat" "$work/models")
+  tells follows_unasked off '' "${claims[@]}"
+  tells follows_quiet off '' "${claims[@]}" --quiet
+  tells follows_verbose off "$read" "${claims[@]}" --verbose
+  tells follows_logged info "\[INFO +follows_check\] $read" "${claims[@]}"
+  tells minimal_unasked off '' "${core[@]}"
+  tells minimal_verbose off "$read" "${core[@]}" --verbose
+  tells minimal_logged info "\[INFO +minimal_check\] $read" "${core[@]}"
+  tells varisat_verbose off "$read" 's UNSATISFIABLE' varisat_check "$data"/par10.{cnf,whole.proof} --verbose
+}
+
+# On a terminal one line is written anew, and taken back before the verdict's.
+case_terminal() {
+  back=$'\r\x1b[K'
+  only_with script
   for program in drat_check lrat_check hint_check; do
     for option in '' --quiet --verbose; do
       name="$program on a terminal $option"
@@ -128,10 +132,11 @@ else
       fi
     done
   done
-fi
+}
 
-# the second phase of drat_check, over the first of these proofs that takes long enough to be told of, however fast the machine is
-if command -v cadical > "$work/where"; then
+# The second phase of drat_check, over the first of these proofs that takes long enough to be told of, however fast the machine is.
+case_backward() {
+  only_with cadical
   for holes in 8 9 10; do
     python3 -B "$top/tests/drat/formulas.py" pigeons "$holes" > "$work/long.cnf"
     cadical -q "$work/long.cnf" "$work/long.drat" > "$work/said" 2>&1 || true
@@ -149,7 +154,7 @@ if command -v cadical > "$work/where"; then
     echo "WRONG long: output '$(cat "$work/out")', errors '$(cat "$work/err")'"
     wrong=1
   fi
-fi
+}
 
 # counts NAME PROGRAM CNF PROOF VERDICT LINE..: with --stats these lines come on standard error, which are patterns of grep
 counts() {
@@ -172,16 +177,17 @@ counts() {
 }
 
 # 1 follows from two of the clauses, and the other two are against each other with it.
-cost=('c seconds [0-9]+\.[0-9]{3}' 'c memory_kb [1-9][0-9]+')
-counts stats drat_check "$work"/{cnf,drat} 's VERIFIED UNSAT' 'c steps 2' 'c lemmas 2' 'c rat_lemmas 0' 'c hints 5' \
-  'c core_clauses 4' "${cost[@]}"
-printf 'd 1 2 3 0\n' > "$work/open"
-counts stats_open drat_check "$work"/{cnf,open} 's NOT VERIFIED' 'c steps 1' 'c lemmas 0' 'c rat_lemmas 0' 'c hints 0' 'c core_clauses 0' \
-  "${cost[@]}"
-printf 'd 1 2 3 0\n1 x 0\n' > "$work/malformed"
-counts stats_malformed drat_check "$work"/{cnf,malformed} '' 'proof: step 2: malformed' "in $work/malformed" 'c steps 1' 'c lemmas 0' \
-  'c rat_lemmas 0' 'c hints 0' 'c core_clauses 0' "${cost[@]}"
-counts stats_lrat lrat_check "$work"/{cnf,lrat} 's VERIFIED UNSAT' "${cost[@]}"
+case_stats() {
+  cost=('c seconds [0-9]+\.[0-9]{3}' 'c memory_kb [1-9][0-9]+')
+  counts stats drat_check "$work"/{cnf,drat} 's VERIFIED UNSAT' 'c steps 2' 'c lemmas 2' 'c rat_lemmas 0' 'c hints 5' \
+    'c core_clauses 4' "${cost[@]}"
+  printf 'd 1 2 3 0\n' > "$work/open"
+  counts stats_open drat_check "$work"/{cnf,open} 's NOT VERIFIED' 'c steps 1' 'c lemmas 0' 'c rat_lemmas 0' 'c hints 0' 'c core_clauses 0' \
+    "${cost[@]}"
+  counts stats_malformed drat_check "$work"/{cnf,malformed} '' 'proof: step 2: malformed' "in $work/malformed" 'c steps 1' 'c lemmas 0' \
+    'c rat_lemmas 0' 'c hints 0' 'c core_clauses 0' "${cost[@]}"
+  counts stats_lrat lrat_check "$work"/{cnf,lrat} 's VERIFIED UNSAT' "${cost[@]}"
+}
 
 # json NAME PROGRAM CNF PROOF COUNTS OPTION..: with --json the last line on standard error is an object with these counts, a python dict, and
 # what the run cost
@@ -207,8 +213,12 @@ END
     wrong=1
   fi
 }
-json json drat_check "$work"/{cnf,drat} "{'steps': 2, 'lemmas': 2, 'rat_lemmas': 0, 'hints': 5, 'core_clauses': 4}"
-json json_and_stats drat_check "$work"/{cnf,drat} "{'steps': 2, 'lemmas': 2, 'rat_lemmas': 0, 'hints': 5, 'core_clauses': 4}" --stats
-json json_malformed drat_check "$work"/{cnf,malformed} "{'steps': 1, 'lemmas': 0, 'rat_lemmas': 0, 'hints': 0, 'core_clauses': 0}"
-json json_lrat lrat_check "$work"/{cnf,lrat} '{}'
-exit "$wrong"
+
+case_json() {
+  json json drat_check "$work"/{cnf,drat} "{'steps': 2, 'lemmas': 2, 'rat_lemmas': 0, 'hints': 5, 'core_clauses': 4}"
+  json json_and_stats drat_check "$work"/{cnf,drat} "{'steps': 2, 'lemmas': 2, 'rat_lemmas': 0, 'hints': 5, 'core_clauses': 4}" --stats
+  json json_malformed drat_check "$work"/{cnf,malformed} "{'steps': 1, 'lemmas': 0, 'rat_lemmas': 0, 'hints': 0, 'core_clauses': 0}"
+  json json_lrat lrat_check "$work"/{cnf,lrat} '{}'
+}
+
+try_cases

@@ -9,7 +9,7 @@
 set -euo pipefail
 . "$(dirname "$0")/lib.sh"
 check=$(built model_check)
-count=${1:-200} seed=${2:-1}
+drawn=("${1:-200}" "${2:-1}")
 
 answers() {
   python3 -B "$top/tests/model_check/answers.py" "$check" "$@" || wrong=1
@@ -68,7 +68,7 @@ case_picosat() {
 }
 
 case_random() {
-  answers random "$count" "$seed"
+  answers random "${drawn[@]}"
 }
 
 try_cases

@@ -39,7 +39,7 @@ for name in "${names[@]}"; do
 done
 wait
 
-# Where wasm2c and the compiler for aarch64 are missing, that is said, and the other forms are made
+# What is here but wasm2c and the compiler for aarch64; and the forms.
 out=$work/forms
 mkdir "$work/bin"
 ln -s /usr/bin/* "$work/bin/"
@@ -54,39 +54,39 @@ if ! "$top/tools/portable.sh" --built "$out" "${names[@]}" 2> "$work/missing"; t
   RT=$rt "$work/copy/tools/portable.sh" "$work/first" "${names[@]}"
   "$top/tools/portable.sh" --built "$out" "${names[@]}"
 fi
-PATH=$work/bin "$top/tools/portable.sh" --built "$work/few" "${names[@]}" > "$work/missing" 2>&1
-same 'without two compilers' 'wasm2c is not installed (Debian: wabt): no C files
+
+# Where wasm2c and the compiler for aarch64 are missing, that is said, and the other forms are made.
+case_compilers() {
+  PATH=$work/bin "$top/tools/portable.sh" --built "$work/few" "${names[@]}" > "$work/missing" 2>&1
+  same 'without two compilers' 'wasm2c is not installed (Debian: wabt): no C files
 aarch64-linux-gnu-gcc is not installed (Debian: gcc-aarch64-linux-gnu): no programs for aarch64' "$(cat "$work/missing")"
-same 'the other forms' "$(cd "$out" && sha256sum -- *.wasm cefindrato.* | sort)" "$(cd "$work/few" && sha256sum -- * | sort)"
+  same 'the other forms' "$(cd "$out" && sha256sum -- *.wasm cefindrato.* | sort)" "$(cd "$work/few" && sha256sum -- * | sort)"
+}
 
-# A module that does not give the program is refused, as is a program without one, also in the cache
-name=${names[0]}
-built=crates/${name}_main/out/${name}_main
-mkdir -p "$work/tree/${built%/*}"
-cp -R "$top/tools" "$work/tree/"
-cp "$top/$built"{,.bc,.bc.words} "$work/tree/${built%/*}/"
-echo >> "$work/tree/$built"
-for change in 'another program' 'no module'; do
-  status=0
-  said=$(XDG_CACHE_HOME=$work/cache "$work/tree/tools/portable.sh" --built "$work/none" "$name" 2>&1) || status=$?
-  same "$change" "1 no module of $name as it is built: tools/portable.sh $work/none $name makes it" "$status $said"
-  cp "$top/$built" "$work/tree/$built"
-  rm -f "$work/tree/$built.bc"
-done
+# A module that does not give the program is refused, as is a program without one, also in the cache.
+case_modules() {
+  name=${names[0]}
+  built=crates/${name}_main/out/${name}_main
+  mkdir -p "$work/tree/${built%/*}"
+  cp -R "$top/tools" "$work/tree/"
+  cp "$top/$built"{,.bc,.bc.words} "$work/tree/${built%/*}/"
+  echo >> "$work/tree/$built"
+  for change in 'another program' 'no module'; do
+    status=0
+    said=$(XDG_CACHE_HOME=$work/cache "$work/tree/tools/portable.sh" --built "$work/none" "$name" 2>&1) || status=$?
+    same "$change" "1 no module of $name as it is built: tools/portable.sh $work/none $name makes it" "$status $said"
+    cp "$top/$built" "$work/tree/$built"
+    rm -f "$work/tree/$built.bc"
+  done
+}
 
-# The forms of the C files, all at once. compiles NAME FORM COMPILER WORD..: one of them
+# compiles NAME FORM COMPILER WORD..: one form of the C files, while others are compiled
 compiles() {
   if [[ -f $out/$1.c ]] && has "$3"; then
     "${@:3}" -o "$work/$1-$2" "$out/$1.c" -lm > "$work/$1-$2.said" 2>&1 &
     compilers[$1-$2]=$!
   fi
 }
-declare -A compilers
-for name in "${names[@]}"; do
-  compiles "$name" gcc gcc -O1
-  compiles "$name" clang clang -O0
-  compiles "$name" tcc tcc
-done
 
 # compiled NAME FORM: adds one to the forms that are compared
 compiled() {
@@ -100,19 +100,28 @@ compiled() {
   fi
 }
 
-for name in "${names[@]}"; do
-  forms=("proved=$top/crates/${name}_main/out/${name}_main")
-  if has node; then
-    forms+=("node=node $out/cefindrato.mjs $name")
-  fi
-  for form in gcc clang tcc; do
-    compiled "$name" "$form"
+# All forms of a program, beside it.
+case_forms() {
+  declare -A compilers
+  for name in "${names[@]}"; do
+    compiles "$name" gcc gcc -O1
+    compiles "$name" clang clang -O0
+    compiles "$name" tcc tcc
   done
-  if [[ -f $out/$name-aarch64 ]] && has qemu-aarch64; then
-    forms+=("aarch64=qemu-aarch64 $out/$name-aarch64")
-  fi
-  python3 -B "$top/tests/portable/compare.py" "$name" "$top/tests/data" "${forms[@]}" || wrong=1
-done
+  for name in "${names[@]}"; do
+    forms=("proved=$top/crates/${name}_main/out/${name}_main")
+    if has node; then
+      forms+=("node=node $out/cefindrato.mjs $name")
+    fi
+    for form in gcc clang tcc; do
+      compiled "$name" "$form"
+    done
+    if [[ -f $out/$name-aarch64 ]] && has qemu-aarch64; then
+      forms+=("aarch64=qemu-aarch64 $out/$name-aarch64")
+    fi
+    python3 -B "$top/tests/portable/compare.py" "$name" "$top/tests/data" "${forms[@]}" || wrong=1
+  done
+}
 
 # called STATUS OUTPUT WORD..: what node is called with, and that it says this on standard output or on standard error, and no more
 called() {
@@ -120,7 +129,10 @@ called() {
   said=$(node "$out/cefindrato.mjs" "${@:3}" 2> "$work/err") || status=$?
   same "node cefindrato.mjs ${*:3}" "$1 $2" "$status $said$(cat "$work/err")"
 }
-if has node; then
+
+case_node() {
+  only_with node
+  name=${names[-1]}
   version=$(sed -n 's/^const VERSION: &str = "\([^ "]*\).*/\1/p' "$top/crates/command/src/status.rt")
   usage=$(node "$out/cefindrato.mjs" --help)
   same 'what node names' "  NAME  the program, one of those beside this file: $(printf '%s\n' "${names[@]}" | sort | paste -s -d , | sed 's/,/, /g')" \
@@ -134,11 +146,14 @@ if has node; then
   called 2 "there is no program none $more" none
   called 2 "there is no program ../forms/$name $more" "../forms/$name"
   called 2 "no program is named $more"
-fi
+}
 
-# The page: a verdict, a fault, and files that it can't take
-if [[ -f $out/cefindrato.html ]] && has chromium && has node; then
+# The page: a verdict, a fault, and files that it can't take.
+case_page() {
+  only_with chromium node
+  [[ -f $out/cefindrato.html ]] || untried 'there is no page'
   python3 -B "$top/tests/portable/cases.py" "$top/tests/data" "$work" "${names[@]}" > "$work/cases"
   node "$top/tests/portable/page.mjs" "$out/cefindrato.html" "$pictures" < "$work/cases" || wrong=1
-fi
-exit "$wrong"
+}
+
+try_cases

@@ -50,20 +50,24 @@ printf '4 1 0 1 2 0\n' > piece.lrat
 printf '1 0\n' > piece.drat
 printf '1 0\n-1 2 0\n' > next
 printf -- '-1 -2 0\n' > missing
-# Texts whose lengths lie about the blocks of the hash function and of the readers.
-for length in {0..130} 4095 4096 4097 65535 65536 65537 1000001; do
-  {
-    cat four
-    head -c "$length" /dev/zero | tr '\0' 'c'
-  } > text
-  rm -f receipt
-  wants 0 "$UNSAT" '' lrat_check text four.lrat --receipt receipt
-  holds "refuted sha256 $(sum text)"
-done
-wants 0 's VERIFIED UNSAT BY 1 RECEIPTS' '' join_check text receipt
 
-for program in lrat drat; do
-  check=${program}_check
+# Texts whose lengths lie about the blocks of the hash function and of the readers.
+case_lengths() {
+  for length in {0..130} 4095 4096 4097 65535 65536 65537 1000001; do
+    {
+      cat four
+      head -c "$length" /dev/zero | tr '\0' 'c'
+    } > text
+    rm -f receipt
+    wants 0 "$UNSAT" '' lrat_check text four.lrat --receipt receipt
+    holds "refuted sha256 $(sum text)"
+  done
+  wants 0 's VERIFIED UNSAT BY 1 RECEIPTS' '' join_check text receipt
+}
+
+# kept PROGRAM: by `lrat_check` or `drat_check`, on files of that ending
+kept() {
+  local program=$1 check=$1_check name status
   for name in four -; do
     rm -f receipt
     wants 0 "$UNSAT" '' "$check" "$name" "four.$program" --receipt=receipt < four
@@ -103,32 +107,50 @@ for program in lrat drat; do
   wants 2 '' $'cannot open -\n- is standard input, and no output' "$check" four "four.$program" --receipt -
   wants 2 '' $'cannot open \nthe name of an output is empty' "$check" four "four.$program" --receipt ''
   none_left
-done
-wants 1 '' $'proof: line 1: clause of a hint is not unit\nin bad.lrat' lrat_check four bad.lrat --receipt receipt
-[[ ! -e receipt ]] || fault 'a receipt of a rejected proof'
-for output in --lrat --trim --core; do
-  wants 0 "$UNSAT" '' drat_check four four.drat "$output" output --receipt receipt
-  holds "refuted sha256 $(sum four)"
-  wants 2 '' $'cannot open receipt\nboth outputs are one file' drat_check four four.drat "$output" receipt --receipt receipt
-done
-rm receipt
+}
+
+case_lrat_check() {
+  kept lrat
+}
+
+case_drat_check() {
+  kept drat
+}
+
+case_rejected() {
+  wants 1 '' $'proof: line 1: clause of a hint is not unit\nin bad.lrat' lrat_check four bad.lrat --receipt receipt
+  [[ ! -e receipt ]] || fault 'a receipt of a rejected proof'
+}
+
+case_outputs() {
+  for output in --lrat --trim --core; do
+    wants 0 "$UNSAT" '' drat_check four four.drat "$output" output --receipt receipt
+    holds "refuted sha256 $(sum four)"
+    wants 2 '' $'cannot open receipt\nboth outputs are one file' drat_check four four.drat "$output" receipt --receipt receipt
+  done
+}
 
 # An answer, and one that is none.
-wants 0 "$SAT" '' model_check three answer --receipt receipt
-holds "satisfied sha256 $(sum three)"
-wants 3 's NOT VERIFIED' 'no receipts lead from the formula to one that is refuted' join_check three receipt
-echo old > receipt
-wants 3 "$OPEN" 'formula: line 3: clause 3 has no literal of the answer' model_check three other.answer --receipt receipt
-holds old
-wants 2 '' $'cannot open answer\nthe output is a file that is read' model_check three answer --receipt answer
-none_left
+case_answer() {
+  wants 0 "$SAT" '' model_check three answer --receipt receipt
+  holds "satisfied sha256 $(sum three)"
+  wants 3 's NOT VERIFIED' 'no receipts lead from the formula to one that is refuted' join_check three receipt
+  echo old > receipt
+  wants 3 "$OPEN" 'formula: line 3: clause 3 has no literal of the answer' model_check three other.answer --receipt receipt
+  holds old
+  wants 2 '' $'cannot open answer\nthe output is a file that is read' model_check three answer --receipt answer
+  none_left
+}
 
 # A chain of two pieces: the four clauses carry to three others, which are refuted.
-printf '1 0\n-1 2 0\n-1 -2 0\n' > between
-printf '4 0 1 2 3 0\n' > end.lrat
-wants 0 "$PIECE" '' lrat_check four open.lrat --holds between --receipt first
-wants 0 "$UNSAT" '' lrat_check between end.lrat --receipt second
-wants 0 's VERIFIED UNSAT BY 2 RECEIPTS' '' bash -c 'cat second first | join_check four -'
-wants 3 "$OPEN" 'no receipts lead from the formula to one that is refuted' join_check four first
-wants 3 "$OPEN" 'no receipts lead from the formula to one that is refuted' join_check four second
-exit "$wrong"
+case_chain() {
+  printf '1 0\n-1 2 0\n-1 -2 0\n' > between
+  printf '4 0 1 2 3 0\n' > end.lrat
+  wants 0 "$PIECE" '' lrat_check four open.lrat --holds between --receipt first
+  wants 0 "$UNSAT" '' lrat_check between end.lrat --receipt second
+  wants 0 's VERIFIED UNSAT BY 2 RECEIPTS' '' bash -c 'cat second first | join_check four -'
+  wants 3 "$OPEN" 'no receipts lead from the formula to one that is refuted' join_check four first
+  wants 3 "$OPEN" 'no receipts lead from the formula to one that is refuted' join_check four second
+}
+
+try_cases

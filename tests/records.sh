@@ -2,12 +2,10 @@
 # Whether `tests/wrong_bodies.sh --records` says what has changed since the wrong bodies were tried: of two small crates, one above the
 # other, of which now this and now that is changed.
 set -euo pipefail
-cd "$(dirname "$0")/.."
-work=$(mktemp -d)
-trap 'rm -rf "$work"' EXIT
-mkdir -p "$work"/tests "$work"/crates/{low,high}/{src,specs} "$work/crates/high/wrong-bodies"
-cp -r tests/wrong_bodies tests/wrong_bodies.sh "$work/tests"
+. "$(dirname "$0")/lib.sh"
 cd "$work"
+mkdir -p tests crates/{low,high}/{src,specs} crates/high/wrong-bodies
+cp -r "$top"/tests/wrong_bodies{,.sh} tests
 printf 'low:\nhigh: low\n' > crates.txt
 printf 'high one\n' > tests/wrong_bodies/always.txt
 cat > crates/low/src/lib.rt << 'END'
@@ -50,37 +48,43 @@ sys.path.insert(0, "tests/wrong_bodies")
 from records import Record
 Record("crates/high").note({"one": "clause", "three": "proof"})'
 cp -r crates kept
-failed=0
 
 # says STATUS WORDS WHAT FILE FROM TO: what is said, and with which status, where this is changed in the file.
 says() {
   local status=0
   sed -i "s/$5/$6/" "crates/$4"
   if cmp -s "crates/$4" "kept/$4"; then
-    echo "$3: nothing was changed" && failed=1
+    fault "$3: nothing was changed"
   fi
   tests/wrong_bodies.sh --records > said || status=$?
   if [[ $status != "$1" || $(cut -d: -f1 said) != "$2" ]]; then
-    echo "$3: status $status, with these words:" && cat said && failed=1
+    fault "$3: status $status, with these words: $(cat said)"
   fi
   cp "kept/$4" "crates/$4"
 }
 own='wrong bodies were not tried since these changed; run'
 below='wrong bodies are to be tried again over the definitions and clauses below, by --stale'
-says 0 '' 'a comment below' low/src/lib.rt 'A number' 'One number'
-says 0 '' 'a body below' low/src/lib.rt 'let seven = own();' 'let seven = 7;'
-says 0 '' 'the body of a method below' low/src/lib.rt false true
-says 0 '' 'an import below' low/src/lib.rt 'use std::alloc' 'use std::mem'
-says 0 '' 'a private contract below' low/src/lib.rt '5 + 2' '4 + 3'
-says 0 "$below" 'a contract below' low/src/lib.rt 'result ≡ 7' 'result ≡ 8'
-says 0 "$below" 'a contract of a trait below' low/src/lib.rt counted tallied
-says 0 "$below" 'a contract of a method with a body' low/src/lib.rt wanting lacking
-says 0 "$below" 'a definition below' low/specs/Numbers.antt seven eight
-says 1 "$own" 'a body of the crate' high/src/lib.rt '{ 2 }' '{ 1 + 1 }'
-says 1 "$own" 'a definition of the crate' high/specs/Twos.antt two three
-says 1 "$own" 'a wrong body' high/wrong-bodies/wrong-bodies.txt 'new: 3' 'new: 4'
-says 1 "$own" 'a new wrong body' high/wrong-bodies/wrong-bodies.txt '# three' '# four\nold: 2 }\nnew: 4 }\n\n# three'
-says 1 "$own" 'a heading that is gone' high/wrong-bodies/wrong-bodies.txt '# three' ''
-says 1 "$own
+
+case_below() {
+  says 0 '' 'a comment below' low/src/lib.rt 'A number' 'One number'
+  says 0 '' 'a body below' low/src/lib.rt 'let seven = own();' 'let seven = 7;'
+  says 0 '' 'the body of a method below' low/src/lib.rt false true
+  says 0 '' 'an import below' low/src/lib.rt 'use std::alloc' 'use std::mem'
+  says 0 '' 'a private contract below' low/src/lib.rt '5 + 2' '4 + 3'
+  says 0 "$below" 'a contract below' low/src/lib.rt 'result ≡ 7' 'result ≡ 8'
+  says 0 "$below" 'a contract of a trait below' low/src/lib.rt counted tallied
+  says 0 "$below" 'a contract of a method with a body' low/src/lib.rt wanting lacking
+  says 0 "$below" 'a definition below' low/specs/Numbers.antt seven eight
+}
+
+case_own() {
+  says 1 "$own" 'a body of the crate' high/src/lib.rt '{ 2 }' '{ 1 + 1 }'
+  says 1 "$own" 'a definition of the crate' high/specs/Twos.antt two three
+  says 1 "$own" 'a wrong body' high/wrong-bodies/wrong-bodies.txt 'new: 3' 'new: 4'
+  says 1 "$own" 'a new wrong body' high/wrong-bodies/wrong-bodies.txt '# three' '# four\nold: 2 }\nnew: 4 }\n\n# three'
+  says 1 "$own" 'a heading that is gone' high/wrong-bodies/wrong-bodies.txt '# three' ''
+  says 1 "$own
 wrong bodies that each run tries are not there" 'one of each run that is gone' high/wrong-bodies/wrong-bodies.txt '# one' '# eins'
-exit "$failed"
+}
+
+try_cases

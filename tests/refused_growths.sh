@@ -159,8 +159,6 @@ sum() {
   echo "sha256 $(sha256sum < "$1" | cut -d ' ' -f 1)"
 }
 
-"$vectors" "$top/tests/refused_growths/scripts"
-python3 -B "$top/tests/refused_growths/scripts.py" "$vectors" "$work/fail.so" "$top/tests/refused_growths/scripts" || wrong=1
 # the added clauses of the LRAT proof alone
 sed '/ d /d;s/^[0-9]* //;s/^0 .*/0/;s/ 0 .*/ 0/' "$data/par10.lrat" > "$work/drat"
 printf '1 268435456 0\n1 -268435456 0\n-1 268435456 0\n-1 -268435456 0\n' > "$work/far.cnf"
@@ -201,7 +199,10 @@ printf 'aig 3 2 0 1 1\n0\n\2\2' > "$work/none.aig"
 printf 'aig 2 1 1 0 0 1\n2\n4\n' > "$work/machine.aig"
 printf '1\nb0\n0\n1\n0\n.\n' > "$work/stimulus"
 printf -- '-5 0\n0\n' > "$work/same"
-for mode in FAIL_AT FAIL_FROM; do
+
+# proofs MODE: of some size, and an answer
+proofs() {
+  local mode=$1
   for proof in "$data"/*.proof; do
     run "$(basename "$proof")" "$mode" 's UNSATISFIABLE' "$check" "${proof%.*.proof}.cnf" "$proof"
   done
@@ -218,13 +219,21 @@ for mode in FAIL_AT FAIL_FROM; do
   run 'par10.lrat by lrat_to_proof' "$mode" '' "$lrat_to_proof" "$data"/par10.{cnf,lrat} "$work/bytes"
   run 'an answer' "$mode" 's VERIFIED SAT' "$model_check" "$work"/{chain.cnf,answer}
   run_unmet "$mode" "$work"/{chain.cnf,unmet} 'line 3: clause 2'
-  # over a few clauses
+}
+
+# few_clauses MODE
+few_clauses() {
+  local mode=$1
   run 'four clauses' "$mode" 's UNSATISFIABLE' "$check" "$work"/small.{cnf,proof}
   run 'four clauses with hints' "$mode" 's UNSATISFIABLE' "$check" "$work"/small.{cnf,proof} "$work/hints"
   run 'four clauses by lrat_to_proof' "$mode" '' "$lrat_to_proof" "$work"/small.{cnf,lrat} "$work/bytes"
   run 'an answer to three clauses' "$mode" 's VERIFIED SAT' "$model_check" "$work"/three.{cnf,answer}
   run_unmet "$mode" "$work"/three.{cnf,unmet} 'line 4: clause 3'
-  # and a receipt
+}
+
+# receipts MODE
+receipts() {
+  local mode=$1
   run_kept 'a receipt by lrat_check' "$mode" 's VERIFIED UNSAT' "refuted $(sum "$work/small.cnf")" "$lrat_check" "$work"/small.{cnf,lrat}
   run_kept 'a receipt by drat_check' "$mode" 's VERIFIED UNSAT' "refuted $(sum "$work/four")" "$drat_check" "$work"/{four,refuted}
   run_kept 'a receipt by model_check' "$mode" 's VERIFIED SAT' "satisfied $(sum "$work/three.cnf")" "$model_check" "$work"/three.{cnf,answer}
@@ -232,6 +241,11 @@ for mode in FAIL_AT FAIL_FROM; do
     "$lrat_check" "$work"/{four,piece.lrat} --holds "$work/next"
   run_kept 'a receipt of a piece by drat_check' "$mode" 's VERIFIED PIECE' "carries $(sum "$work/satisfiable") $(sum "$work/next")" \
     "$drat_check" "$work"/{satisfiable,piece} --holds "$work/next"
+}
+
+# claims MODE: also of circuits
+claims() {
+  local mode=$1
   run 'claims' "$mode" 's VERIFIED FOLLOWS' "$follows" "$work"/{four,claims,refuted}
   run 'a formula for the solver' "$mode" '' "$follows" "$work"/{four,claims} --formula "$work/hints"
   run 'a core' "$mode" 's VERIFIED MINIMAL' "$minimal" "$work"/{four,refuted,models}
@@ -241,9 +255,49 @@ for mode in FAIL_AT FAIL_FROM; do
   run 'an answer of two circuits' "$mode" $'s VERIFIED DIFFERENT\ni 11\no 1\no 0' "$circuit" same "$work"/{one,none}.aig --answer "$work/answer"
   run 'a stimulus' "$mode" 's VERIFIED REACHED' "$circuit" safe "$work/machine.aig" --stimulus "$work/stimulus"
   run 'a formula of circuits' "$mode" '' "$circuit" same "$work"/{one,two}.aig --formula "$work/hints"
-done
-parsed=$(awk '$1 == "p" { print "Parsed formula with " $3 " variables and " $4 " clauses" }' "$data/par10.cnf")
-run_logged 'par10.whole.proof with a log' 's UNSATISFIABLE' "[INFO  varisat_checker::checker] $parsed" "$check" "$data"/par10.{cnf,whole.proof}
+}
+
+case_scripts() {
+  "$vectors" "$top/tests/refused_growths/scripts"
+  python3 -B "$top/tests/refused_growths/scripts.py" "$vectors" "$work/fail.so" "$top/tests/refused_growths/scripts" || wrong=1
+}
+
+case_proofs_one() {
+  proofs FAIL_AT
+}
+
+case_few_clauses_one() {
+  few_clauses FAIL_AT
+}
+
+case_receipts_one() {
+  receipts FAIL_AT
+}
+
+case_claims_one() {
+  claims FAIL_AT
+}
+
+case_proofs_all() {
+  proofs FAIL_FROM
+}
+
+case_few_clauses_all() {
+  few_clauses FAIL_FROM
+}
+
+case_receipts_all() {
+  receipts FAIL_FROM
+}
+
+case_claims_all() {
+  claims FAIL_FROM
+}
+
+case_log() {
+  parsed=$(awk '$1 == "p" { print "Parsed formula with " $3 " variables and " $4 " clauses" }' "$data/par10.cnf")
+  run_logged 'par10.whole.proof with a log' 's UNSATISFIABLE' "[INFO  varisat_checker::checker] $parsed" "$check" "$data"/par10.{cnf,whole.proof}
+}
 
 # count_growths PROOF: sets `growths` to how many a run has that reads this proof, which ends within its first step
 count_growths() {
@@ -257,12 +311,16 @@ count_growths() {
   [[ $(head -n 1 "$work/err") == 'step 1: Unexpected end of proof file' ]] || misjudged "a proof that ends within its first step"
   growths=$((number - 1))
 }
+
 # Nothing is grown for the number of literals that a proof announces: there are fewer growths than where one literal follows.
-count_growths '\x05\xff\xff\xff\xff\xff\xff\xff\xff\xff\x01'
-announced=$growths
-count_growths '\x05\x02\x00'
-if ((announced >= growths)); then
-  echo "WRONG announced literals: $announced growths, and $growths where a literal follows"
-  wrong=1
-fi
-exit "$wrong"
+case_announced() {
+  count_growths '\x05\xff\xff\xff\xff\xff\xff\xff\xff\xff\x01'
+  announced=$growths
+  count_growths '\x05\x02\x00'
+  if ((announced >= growths)); then
+    echo "WRONG announced literals: $announced growths, and $growths where a literal follows"
+    wrong=1
+  fi
+}
+
+try_cases

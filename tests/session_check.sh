@@ -10,61 +10,70 @@ on_path session_check drat_check lrat_check model_check
 cd "$work"
 
 printf 'p lidrup\ni 1 1 2 0\nq -1 0\ns SATISFIABLE\nm -1 2 0\n' > one.lidrup
-says 0 $'q 1 satisfiable: shown\nall answers are shown: 1 satisfiable, 0 unsatisfiable, 0 unknown' session_check --alone one.lidrup
-says 0 $'q 1 satisfiable: shown\nall answers are shown: 1 satisfiable, 0 unsatisfiable, 0 unknown' session_check --alone - < one.lidrup
-sed 's/^m -1 2/m -1 -2/' one.lidrup > wrong.lidrup
-says 3 $'q 1 satisfiable: not shown: the model has no literal of a clause\n1 of 1 answers are not shown' session_check wrong.lidrup --alone
-says 2 $'cannot open none\nNo such file or directory (os error 2)' session_check --alone none
-# where descriptor 0 is closed
-closed() {
-  "$@" <&-
-}
-says 2 $'cannot open -\nBad file descriptor (os error 9)' closed session_check --alone -
-usage=$'INTERACTION and PROOF, or --alone and PROOF\nusage: session_check [INTERACTION] PROOF [--alone]\nsession_check --help says more'
-says 2 "$usage" session_check one.lidrup
-says 2 "$usage" session_check --alone
-says 2 "$usage" session_check one.icnf one.lidrup --alone
-if [[ -e /dev/full ]]; then
-  says 1 'error writing: No space left on device (os error 28)' bash -c 'session_check --alone one.lidrup > /dev/full'
-fi
 
-printf 'p icnf\ni 1 2 0\nq -1 0\ns SATISFIABLE\nv 2 0\n' > one.icnf
-shown=$'q 1 satisfiable: shown\nall answers are shown: 1 satisfiable, 0 unsatisfiable, 0 unknown'
-says 0 "$shown" session_check one.icnf one.lidrup
-says 0 "$shown" session_check - one.lidrup < one.icnf
-says 0 "$shown" session_check one.icnf - < one.lidrup
-says 2 '- given twice: only one file can be standard input' session_check - -
-says 2 $'cannot open none\nNo such file or directory (os error 2)' session_check none one.lidrup
-says 2 $'cannot open none\nNo such file or directory (os error 2)' session_check one.icnf none
-says 1 $'interaction: line 1: no header\nin one.lidrup' session_check one.lidrup one.lidrup
-printf 'p icnf\ni 1 2 0\nq -1 0\ns SATISFIABLE\nq 1 0\n' > longer.icnf
-says 1 $'q 1 satisfiable: shown\ninteraction: line 5: the proof ends before it\nin longer.icnf' session_check longer.icnf one.lidrup
-printf 'p icnf\nq -1 0\ns SATISFIABLE\n' > shorter.icnf
-says 1 $'proof: line 1: no header\nin standard input' session_check one.icnf - < shorter.icnf
-says 1 $'proof: line 2: the interaction does not have it here\nin one.lidrup' session_check shorter.icnf one.lidrup
-sed 's/^i 1 2/i 1 -2/' one.icnf > other.icnf
-says 3 $'q 1 satisfiable: not shown: the model has no literal of a clause\n1 of 1 answers are not shown' session_check other.icnf one.lidrup
-says 1 $'proof: line 1: no header\nin one.icnf' session_check --alone one.icnf
+case_alone() {
+  says 0 $'q 1 satisfiable: shown\nall answers are shown: 1 satisfiable, 0 unsatisfiable, 0 unknown' session_check --alone one.lidrup
+  says 0 $'q 1 satisfiable: shown\nall answers are shown: 1 satisfiable, 0 unsatisfiable, 0 unknown' session_check --alone - < one.lidrup
+  sed 's/^m -1 2/m -1 -2/' one.lidrup > wrong.lidrup
+  says 3 $'q 1 satisfiable: not shown: the model has no literal of a clause\n1 of 1 answers are not shown' session_check wrong.lidrup --alone
+  says 2 $'cannot open none\nNo such file or directory (os error 2)' session_check --alone none
+  # where descriptor 0 is closed
+  closed() {
+    "$@" <&-
+  }
+  says 2 $'cannot open -\nBad file descriptor (os error 9)' closed session_check --alone -
+  usage=$'INTERACTION and PROOF, or --alone and PROOF\nusage: session_check [INTERACTION] PROOF [--alone]\nsession_check --help says more'
+  says 2 "$usage" session_check one.lidrup
+  says 2 "$usage" session_check --alone
+  says 2 "$usage" session_check one.icnf one.lidrup --alone
+  if [[ -e /dev/full ]]; then
+    says 1 'error writing: No space left on device (os error 28)' bash -c 'session_check --alone one.lidrup > /dev/full'
+  fi
+}
+
+case_interaction() {
+  printf 'p icnf\ni 1 2 0\nq -1 0\ns SATISFIABLE\nv 2 0\n' > one.icnf
+  shown=$'q 1 satisfiable: shown\nall answers are shown: 1 satisfiable, 0 unsatisfiable, 0 unknown'
+  says 0 "$shown" session_check one.icnf one.lidrup
+  says 0 "$shown" session_check - one.lidrup < one.icnf
+  says 0 "$shown" session_check one.icnf - < one.lidrup
+  says 2 '- given twice: only one file can be standard input' session_check - -
+  says 2 $'cannot open none\nNo such file or directory (os error 2)' session_check none one.lidrup
+  says 2 $'cannot open none\nNo such file or directory (os error 2)' session_check one.icnf none
+  says 1 $'interaction: line 1: no header\nin one.lidrup' session_check one.lidrup one.lidrup
+  printf 'p icnf\ni 1 2 0\nq -1 0\ns SATISFIABLE\nq 1 0\n' > longer.icnf
+  says 1 $'q 1 satisfiable: shown\ninteraction: line 5: the proof ends before it\nin longer.icnf' session_check longer.icnf one.lidrup
+  printf 'p icnf\nq -1 0\ns SATISFIABLE\n' > shorter.icnf
+  says 1 $'proof: line 1: no header\nin standard input' session_check one.icnf - < shorter.icnf
+  says 1 $'proof: line 2: the interaction does not have it here\nin one.lidrup' session_check shorter.icnf one.lidrup
+  sed 's/^i 1 2/i 1 -2/' one.icnf > other.icnf
+  says 3 $'q 1 satisfiable: not shown: the model has no literal of a clause\n1 of 1 answers are not shown' session_check other.icnf one.lidrup
+  says 1 $'proof: line 1: no header\nin one.icnf' session_check --alone one.icnf
+}
 
 # Who writes the session waits for each answer.
-coproc checker { session_check --alone -; }
-printf 'p lidrup\ni 1 1 2 0\n' >&"${checker[1]}"
-for number in 1 2 3; do
-  printf 'q -1 0\ns SATISFIABLE\nm -1 2 0\n' >&"${checker[1]}"
-  if ! read -r -t 20 answer <&"${checker[0]}" || [[ $answer != "q $number satisfiable: shown" ]]; then
-    echo "query $number over a pipe: ${answer-no answer}"
-    wrong=1
-  fi
-done
-pid=$checker_PID
-eval "exec ${checker[1]}>&-"
-wait "$pid" || wrong=1
+case_pipe() {
+  coproc checker { session_check --alone -; }
+  printf 'p lidrup\ni 1 1 2 0\n' >&"${checker[1]}"
+  for number in 1 2 3; do
+    printf 'q -1 0\ns SATISFIABLE\nm -1 2 0\n' >&"${checker[1]}"
+    if ! read -r -t 20 answer <&"${checker[0]}" || [[ $answer != "q $number satisfiable: shown" ]]; then
+      echo "query $number over a pipe: ${answer-no answer}"
+      wrong=1
+    fi
+  done
+  pid=$checker_PID
+  eval "exec ${checker[1]}>&-"
+  wait "$pid" || wrong=1
+}
 
-mkdir judged
-tar -xJf "$top/tests/sessions/judged.tar.xz" -C judged
-for way in alone told; do
-  python3 -B "$top/tests/sessions/$way.py" session_check "$top/tools/sessions" judged 1 "${SESSIONS:-20}" || wrong=1
-done
+case_judged() {
+  mkdir judged
+  tar -xJf "$top/tests/sessions/judged.tar.xz" -C judged
+  for way in alone told; do
+    python3 -B "$top/tests/sessions/$way.py" session_check "$top/tools/sessions" judged 1 "${SESSIONS:-20}" || wrong=1
+  done
+}
 
 # Each query has to be shown that has no clause for it alone, by `session_check` and by `sessions`.
 # traced SEED VARIABLES
@@ -93,7 +102,8 @@ traced() {
   done
 }
 
-if "$top/tests/ipasir/cadical2.sh" "$work/two"; then
+case_cadical2() {
+  "$top/tests/ipasir/cadical2.sh" "$work/two" > said || untried 'CaDiCaL 2 is not to be had'
   two/bin/c++ -std=c++17 -O2 -Wall -Wextra -Werror -o traced "$top/tests/sessions/traced.cpp" -lcadical
   for seed in $(seq "${SESSIONS:-8}"); do
     for variables in 6 40 100; do
@@ -113,5 +123,6 @@ if "$top/tests/ipasir/cadical2.sh" "$work/two"; then
         session_check --alone cubes.lidrup
     done
   fi
-fi
-exit "$wrong"
+}
+
+try_cases

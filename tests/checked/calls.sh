@@ -46,9 +46,6 @@ ends 10 "$sat" checked strict other.satlib
 ends 1 '' checked refuter behind
 
 # a formula that is at fault, before the solver runs
-solver tracing << 'END'
-echo > ran; exec refuter "$@"
-END
 printf 'p cnf 2 1\n1 x 0\n' > bad.cnf
 gzip -k bad.cnf
 for name in bad.cnf bad.cnf.gz; do
@@ -117,11 +114,6 @@ ends 1 '' checked lingeling four.cnf
 because 'the answer that the solver wrote is not verified'
 
 # LRAT of a solver that has it, and DRAT of the same one where its checker is not there, or the call says how
-solver cadical << 'END'
-[ "$*" != --help ] || exec printf '  --drat=bool\n  --lrat=bool  use LRAT proof format [false]\n'
-[ "$1" != --lrat ] || { cmp -s "$2" four.cnf && printf '5 1 0 1 2 0\n6 0 5 3 4 0\n' > "$3"; exit 20; }
-printf '1 0\n0\n' > "$2"; exit 20
-END
 ends 20 "$unsat" checked --verbose cadical four.cnf
 because "runs: cadical --lrat $PWD/four.cnf"
 because "lrat_check $PWD/four.cnf proof"

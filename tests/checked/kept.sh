@@ -1,13 +1,6 @@
 # shellcheck shell=bash disable=SC2154,SC2034
 # What is kept, and what no file is written over. Read by tests/checked.sh.
 
-# keeps WANTED: the kept file must hold this, or not be there, and nothing is left beside it
-keeps() {
-  if [[ $(cat kept* 2> null) != "$1" || $(find . -name 'kept?*') ]]; then
-    printf 'kept: %s\n' "$(tail -n +1 kept* 2> null)"
-    wrong=1
-  fi
-}
 ends 20 "$unsat" checked --keep kept refuter four.cnf
 keeps $'1 0\n0'
 ends 10 "$sat" checked --keep kept finder other.cnf
