@@ -1,4 +1,4 @@
--- The bytes with which steps begin, and how the format is detected from the first ones of a proof.
+-- The bytes with which FRAT steps begin, and how the format is detected from the first ones of a proof.
 use Rattle.std.specs.Prelude.{ℕ, Bool, true, false, not, ◌||◌, List, [], ◌∷◌, Option, Some, None, ◌==◌, take, if◌then◌else◌}
 use Rattle.sat_formula.specs.Bytes.{is_lf}
 use Rattle.drat_text.specs.Bytes.{letter_a, letter_d, begins_comment, is_space}

@@ -1,4 +1,4 @@
--- The draft of a step, and what it takes.
+-- The draft of a FRAT step, and what it takes.
 --     view      a step, with its list in place of a reference to it
 --     slot_of draft, found_step draft found      what is due;  the step that has ended
 use Rattle.std.specs.Prelude.{ℕ, List}

@@ -1,4 +1,4 @@
--- What some proofs say: their steps, with literals as codes (1 is 0, -1 is 1, 2 is 2, -2 is 3), and the ending.
+-- What some proofs in FRAT say: their steps, with literals as codes (1 is 0, -1 is 1, 2 is 2, -2 is 3), and the ending.
 use Rattle.std.specs.Prelude.{◌≡◌, true, false, [], ◌∷◌, codes}
 use Rattle.drat_text.specs.declared.fault.DratKind.TheVariants.{Malformed, NumberTooLarge, Unfinished}
 use Rattle.drat_text.specs.declared.frat_step.FratAction.TheVariants.{Original, Add, Delete, Final}

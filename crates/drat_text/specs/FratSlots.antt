@@ -1,4 +1,4 @@
--- What is due next in a step, after what was read of it.
+-- What is due next in a FRAT step, after what was read of it.
 use Rattle.std.specs.Prelude.{ℕ, Bool, true, false, List}
 use Rattle.drat_text.specs.declared.frat_step.FratAction.{FratAction}
 use Rattle.drat_text.specs.declared.frat_step.FratHint.{FratHint}

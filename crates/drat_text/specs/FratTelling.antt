@@ -1,4 +1,4 @@
--- What is detected from the first bytes.
+-- Whether a proof is detected as FRAT, from its first bytes.
 use Rattle.std.specs.Prelude.{◌≡◌, ℕ, Bool, List, Option, Result, Ok, Err, IfSome}
 use Rattle.std.specs.Io.KnownBytes.{Keeps}
 use Rattle.sat_formula.specs.declared.source.Source.{Source}

@@ -1,4 +1,4 @@
-//! The step that is read.
+//! The FRAT step that is read.
 ghost use Rattle.std.specs.Prelude.{◌≡◌, []};
 ghost use Rattle.std.specs.Option.{option_map};
 ghost use Rattle.drat_text.specs.Reading.{TakesNumber};

@@ -1,4 +1,4 @@
-//! A step of a proof.
+//! A step of a FRAT proof.
 use sat_formula::Lit;
 
 /// What a step says of its clause.

@@ -1,4 +1,4 @@
--- The outcome of a call as numbers.
+-- The outcome of a call of the ported checker as numbers.
 --     status_of r, cause_of r, rejected_step r      its status;  the number of its cause, or 0;  the number of the rejected step, or 0
 --     number_of cause      the number of a cause of the checker
 use Rattle.std.specs.Prelude.{ℕ, Result, Ok, Err}

@@ -1,4 +1,4 @@
--- What is behind a handle.
+-- The checker behind a handle.
 --     state_of h      the state of its checker, if there is one
 use Rattle.std.specs.Prelude.{Option}
 use Rattle.std.specs.Option.{option_map}

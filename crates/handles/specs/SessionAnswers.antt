@@ -1,4 +1,4 @@
--- The outcome of a call as numbers.
+-- The outcome of a call of a session as numbers.
 --     status_of r, cause_of r, clause_of r      its status;  the number of its cause, or 0;  the clause that a model misses, or 0
 --     number_of cause, missed_by cause      the number of a cause of the checker;  the clause that it names, or 0
 use Rattle.std.specs.Prelude.{ℕ, Result, Ok, Err}

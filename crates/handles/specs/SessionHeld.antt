@@ -1,4 +1,4 @@
--- What a session holds.
+-- The checker that a session holds.
 --     state_of s      its checker, if there is one
 --     given_to s      the clauses that were given to it, in their order
 --     named_in o, named_to s      the clause of each id, if there is a checker

@@ -1,4 +1,4 @@
--- What a slot owns: the block of its checker, if it has one.
+-- What the slot of a session owns: the block of its checker, if it has one.
 --     holds token p state      what is owned at a pointer, with the right to free its block
 --     place_code      how the logic stores the state of a slot
 use Rattle.std.specs.Prelude.{Option, Some, None}

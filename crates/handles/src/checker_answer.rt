@@ -1,4 +1,4 @@
-//! The outcome of a call as numbers.
+//! The outcome of a call of the ported checker as numbers.
 ghost use Rattle.std.specs.Prelude.{◌≡◌};
 ghost use Rattle.handles.specs.CheckerAnswers.{cause_of, number_of, rejected_step, status_of};
 

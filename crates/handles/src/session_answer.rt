@@ -1,4 +1,4 @@
-//! The outcome of a call as numbers.
+//! The outcome of a call of a session as numbers.
 ghost use Rattle.std.specs.Prelude.{◌≡◌};
 ghost use Rattle.handles.specs.SessionAnswers.{cause_of, clause_of, missed_by, number_of, status_of};
 

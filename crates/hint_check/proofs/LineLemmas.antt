@@ -1,32 +1,25 @@
--- The lines of a proof in turn.
---     SoFar      the lines that were read so far, all of them accepted
-use Rattle.std.proofs.Common.{◌≡◌, ℕ, Bool, List, [], ◌∷◌, ◌++◌, Option, Some, None, Result, Ok, Err, refl, sym, ◌∙◌, subst}
-use Rattle.std.specs.Prelude.{IfErr, IfOk}
+-- The lines of a proof, by what a checker of hints did with them.
+--     proof_accepted, proof_refused      all of them were accepted;  or one was not
+use Rattle.std.proofs.Common.{◌≡◌, ℕ, Bool, false, List, Some, Ok, Err}
 use Rattle.sat_rules.specs.HintLines.{Listed}
+use Rattle.sat_formula.specs.Readings.{Known}
 use Rattle.lrat_rules.specs.Lines.{Line}
-use Rattle.lrat_text.specs.NextLine.{view}
-use Rattle.lrat_text.specs.Texts.{Ended, Faulty, Outcome, with_line, with_lines}
-use Rattle.lrat_text.proofs.LineLemmas.{with_lines-more}
-use Rattle.lrat_text.specs.declared.fault.LratTextFault.{LratTextFault}
+use Rattle.lrat_text.specs.Texts.{Ended, Outcome, with_lines}
 use Rattle.lrat_text.specs.declared.fault.LratTextFault.TheVariants as reads
-use Rattle.lrat_text.specs.declared.line.LratLine.{LratLine}
-use Rattle.lrat_binary.specs.Proofs.{Gives, IsCounted, IsFresh, IsNoLine, line_number, lines_after, outcome_in}
-use Rattle.lrat_binary.specs.Telling.{form_of}
-use Rattle.lrat_binary.specs.declared.ids.Ids.{Ids}
+use Rattle.lrat_binary.specs.Proofs.{outcome_in}
+use Rattle.lrat_binary.specs.TakenLines.{IsExact, TakesLines}
 use Rattle.lrat_binary.specs.declared.ids.LratForm.{LratForm}
 use Rattle.lrat_binary.specs.declared.ids.LratForm.TheVariants as forms
-use Rattle.lrat_binary.specs.declared.proof.LratReader.{LratReader}
-use Rattle.lrat_binary.proofs.GivenLines.{HasGiven, given_begun, given_end, given_fault, given_more, given_start, with_lines-none}
-use Rattle.lrat_binary.proofs.ReadLemmas.{IsExact, Known, fault_exact, line_exact, still_counted}
-use Rattle.hint_checker.specs.Checked.{IsCause, after_said, in_line, refusal}
-use Rattle.hint_checker.specs.Given.{Stops, as_hints, of_text}
-use Rattle.hint_checker.specs.declared.fault.HintTextFault.{HintTextFault}
-use Rattle.hint_checker.specs.declared.fault.HintTextFault.TheVariants.{Refused}
+use Rattle.lrat_binary.specs.declared.sink.UntakenLine.{UntakenLine}
+use Rattle.lrat_binary.specs.declared.sink.UntakenLine.TheVariants.{Proof, Sink}
+use Rattle.hint_checker.specs.Given.{Stops, of_untaken}
+use Rattle.hint_checker.specs.Held.{holds}
+use Rattle.hint_checker.specs.Taken.{HasRejected, HasTaken}
+use Rattle.hint_checker.specs.declared.checker.HintChecker.{HintChecker}
 use Rattle.hint_checker.specs.declared.fault.LineFault.{LineFault}
-use Rattle.hint_checker.specs.declared.fault.LineFault.TheVariants as causes
-use Rattle.hint_checker.proofs.OutcomeLemmas.{Run, accepts, refuses, run_leads, run_more}
-use Rattle.hint_checker.proofs.StreamLemmas.{by_cause, some_text}
-use Rattle.hint_check.specs.Proofs.{AcceptsIn, AcceptsProof, IsProofRefusal, IsToldForm, RefusesIn}
+use Rattle.hint_checker.proofs.OutcomeLemmas.{Run, accepts, refuses, run_leads}
+use Rattle.hint_checker.proofs.StreamLemmas.{unread_line, untaken_line}
+use Rattle.hint_check.specs.Proofs.{AcceptsIn, AcceptsProof, IsProofRefusal, RefusesIn}
 
 -- ---- lines that are given, as those of a text in this form
 
@@ -42,80 +35,21 @@ module _ (h k : Listed) (xs : List (ℕ × Line)) (run : Run h xs k) (bytes : Li
   stopped forms.Text later e m below fault stops = refuses h k xs run bytes later e m below fault stops
   stopped (forms.Binary ids) later e m below fault stops = record { before = xs; later = later; cut = e; held = k; leads_to = run_leads h k xs run; stops = stops }
 
--- ---- the loop over lines
+-- ---- the lines of a proof
 
-pub record SoFar {R : Type 0} (remaining : R → Option (List ℕ)) (known : Known) (form : LratForm) (reader : LratReader R) (h k : Listed) : Type 0 where
-  pub lines : List (ℕ × Line)
-  pub given : HasGiven remaining known form reader lines
-  pub run : Run h lines k
-  pub counted : IsCounted reader
+module _ (form : LratForm) (known : Known) (h : Listed) (first now : HintChecker) (held : holds first ≡ Some h) where
+  pub proof_accepted : TakesLines form known (λ (c : HintChecker). false) (HasTaken first) (HasRejected first) now (Ok tt) → (found : Bool) →
+      ((k : Listed) → holds now ≡ Some k → found ≡ k.added_empty) → AcceptsProof form known h found
+  proof_accepted t found answer =
+      let k = t.1.leads h held in
+      record { text = t.2.text; gives = t.2.gives; held = k.0; accepts = accepted h k.0 t.0 k.1 t.2.text form t.2.is; answer = answer k.0 k.2 }
 
-module _ {R : Type 0} (remaining : R → Option (List ℕ)) (known : Known) (form : LratForm) (old : LratReader R) (h : Listed) where
-  pub so_far_start : IsFresh remaining known form old → SoFar remaining known form old h h
-  so_far_start fresh = record { lines = []; given = given_start remaining known form old fresh; run = refl; counted = fresh.counted }
-
-  module _ (k : Listed) (so : SoFar remaining known form old h k) (new : LratReader R) where
-    -- one more line
-    pub so_far_more : (line : LratLine) → Gives remaining old new (Ok (Some line)) → refusal k (as_hints (view line)) ≡ None → SoFar remaining known form new h (after_said k (as_hints (view line)))
-    so_far_more line gives none = record {
-      lines = so.lines ++ (line_number new, view line) ∷ [];
-      given = given_more remaining known form old so.lines so.given new line gives;
-      run = run_more h k so.lines (line_number new) (view line) so.run none;
-      counted = still_counted remaining old new line gives so.counted;
-    }
-
-    -- a line that is rejected
-    pub so_far_refused : (line : LratLine) → Gives remaining old new (Ok (Some line)) → (fault : LineFault) → IsCause fault (refusal k (as_hints (view line))) →
-        IsProofRefusal form known h (Refused (in_line fault (line_number new)))
-    so_far_refused line gives fault cause =
-        let m = line_number new in
-        let lines = so.lines ++ (m, view line) ∷ [] in
-        let f = given_begun remaining known form new lines (given_more remaining known form old so.lines so.given new line gives) in
-        let later = lines_after form m f.rest in
-        let exact = subst (λ (i : LratForm). IsExact i m) so.given.same (line_exact remaining old new line gives so.counted) in (
-          f.text,
-          f.gives,
-          by_cause (RefusesIn form h f.text) m fault (refusal k (as_hints (view line))) cause
-              (λ g is. stopped h k so.lines so.run f.text form (with_line m (view line) later) (f.says ∙ sym (with_lines-more so.lines m (view line) later)) m exact g (refl, is)),
-        )
-
-    -- the end
-    pub so_far_ended : Gives remaining old new (Ok None) → (found : Bool) → found ≡ k.added_empty → AcceptsProof form known h found
-    so_far_ended gives found is =
-        let f = given_end remaining known form old so.lines so.given new gives in
-        record { text = f.text; gives = f.gives; held = k; accepts = accepted h k so.lines so.run f.text form f.says; answer = is }
-
-    -- a line that can't be read
-    pub so_far_unread : (fault : LratTextFault) → Gives remaining old new (Err fault) → IsProofRefusal form known h (of_text fault)
-    so_far_unread (reads.Line n kind) gives =
-        let f = given_fault remaining known form old so.lines so.given new n kind gives in
-        let exact = subst (λ (i : LratForm). IsExact i n) so.given.same (fault_exact remaining old new n kind gives so.counted) in (
-          f.text,
-          f.gives,
-          stopped h k so.lines so.run f.text form ([], Faulty n kind) (f.says ∙ sym (with_lines-none so.lines (Faulty n kind))) n exact causes.Malformed (refl, refl),
-        )
-    so_far_unread (reads.Read cause) gives = tt
-    so_far_unread reads.OutOfMemory gives = let given = some_text known in (given.0, given.1, tt)
-
--- ---- a proof that was opened, or not
-
-told_form : (ids : Option Ids) (n : ℕ) (known : Known) → (form : LratForm) × IsToldForm ids n known form
-told_form ids n None = (forms.Text, tt)
-told_form ids n (Some bytes) = (form_of ids n bytes, refl)
-
-pub not_opened : (ids : Option Ids) (n : ℕ) (known : Known) (h : Listed) (fault : LratTextFault) → IsNoLine fault → (form : LratForm) × IsToldForm ids n known form × IsProofRefusal form known h (of_text fault)
-not_opened ids n known h (reads.Line m kind) none = absurd none
-not_opened ids n known h (reads.Read cause) none = let told = told_form ids n known in (told.0, told.1, tt)
-not_opened ids n known h reads.OutOfMemory none =
-    let told = told_form ids n known in
-    let given = some_text known in
-    (told.0, told.1, (given.0, given.1, tt))
-
-module _ (ids : Option Ids) (n : ℕ) (known : Known) (form : LratForm) (h : Listed) (told : IsToldForm ids n known form) where
-  pub opened_accepted : (r : Result Bool HintTextFault) → IfOk r (λ answer. AcceptsProof form known h answer) → IfOk r (λ answer. (i : LratForm) × IsToldForm ids n known i × AcceptsProof i known h answer)
-  opened_accepted (Ok answer) p = (form, told, p)
-  opened_accepted (Err fault) p = tt
-
-  pub opened_refused : (r : Result Bool HintTextFault) → IfErr r (λ fault. IsProofRefusal form known h fault) → IfErr r (λ fault. (i : LratForm) × IsToldForm ids n known i × IsProofRefusal i known h fault)
-  opened_refused (Ok answer) p = tt
-  opened_refused (Err fault) p = (form, told, p)
+  pub proof_refused : (u : UntakenLine LineFault) → TakesLines form known (λ (c : HintChecker). false) (HasTaken first) (HasRejected first) now (Err u) → IsProofRefusal form known h (of_untaken u)
+  proof_refused (Proof (reads.Read cause)) t = tt
+  proof_refused (Proof (reads.Line n kind)) t =
+      let k = t.1.leads h held in
+      unread_line form known k.0 t.0 (RefusesIn form h) (λ text. stopped h k.0 t.0 k.1 text form) n t.3.1 kind t.3.0
+  proof_refused (Proof reads.OutOfMemory) t = (t.3.1.text, t.3.1.gives, tt)
+  proof_refused (Sink n fault) t =
+      let k = t.2 h held in
+      untaken_line form known k.0 t.0 (RefusesIn form h) (λ text. stopped h k.0 t.0 k.1 text form) n t.4 t.1 t.3 fault k.2

@@ -8,21 +8,21 @@ use Rattle.std.proofs.lemmas.Bool.{false_from_ne_true}
 use Rattle.sat_rules.specs.Clauses.{all_true}
 use Rattle.sat_rules.specs.HintLines.{Follows, HintLine, Listed, listing}
 use Rattle.sat_rules.proofs.HintLineFacts.{hints_refute}
-use Rattle.lrat_text.specs.declared.fault.LratTextFault.TheVariants as reads
 use Rattle.lrat_binary.specs.declared.ids.Ids.{Ids}
 use Rattle.lrat_binary.specs.declared.ids.LratForm.{LratForm}
 use Rattle.lrat_binary.specs.declared.ids.LratForm.TheVariants as forms
+use Rattle.lrat_binary.specs.TakenLines.{IsToldForm}
+use Rattle.lrat_binary.proofs.GivenLines.{some_text, told_form}
 use Rattle.lrat_binary.proofs.ReadLemmas.{Known}
 use Rattle.hint_checker.specs.declared.fault.HintFault.{HintFault}
 use Rattle.hint_checker.specs.declared.fault.HintFault.TheVariants.{OutOfMemory}
 use Rattle.hint_checker.specs.declared.fault.HintTextFault.TheVariants.{Refused}
-use Rattle.hint_check.specs.Proofs.{AcceptsIn, AcceptsProof, IsProofRefusal, IsToldForm}
+use Rattle.hint_check.specs.Proofs.{AcceptsIn, AcceptsProof, IsProofRefusal}
 use Rattle.hint_check.specs.Runs.{AcceptsHints, ChecksHints, IsUnread}
 use Rattle.verdicts.specs.Verdicts.{verdict_of}
 use Rattle.hint_check.specs.declared.fault.RunFault.{RunFault}
 use Rattle.hint_check.specs.declared.fault.RunFault.TheVariants.{Hints, Read}
 use Rattle.verdicts.specs.declared.verdict.Verdict.TheVariants.{Verified}
-use Rattle.hint_check.proofs.LineLemmas.{not_opened}
 
 lines_follow : (form : LratForm) (h k : Listed) (text : List ℕ) → AcceptsIn form h text k → (lines : List HintLine) × Follows h lines k
 lines_follow forms.Text h k text a = (a.lines, a.follow)
@@ -53,7 +53,10 @@ refused_hints ids known formula count fault counted found = record { form = foun
 
 -- there was no memory
 pub no_memory : (ids : Option Ids) (known : Known) (formula : List (List ℕ)) (fault : HintFault) → fault ≡ OutOfMemory → ChecksHints ids known formula (Err (Hints fault))
-no_memory ids known formula fault e = rw e (refused_hints ids known formula (length formula) OutOfMemory refl (not_opened ids (length formula) known (listing formula) reads.OutOfMemory tt))
+no_memory ids known formula fault e =
+    let told = told_form ids (length formula) known in
+    let given = some_text known in
+    rw e (refused_hints ids known formula (length formula) OutOfMemory refl (told.0, told.1, (given.0, given.1, tt)))
 
 -- a read of it failed
 pub unread_hints : (ids : Option Ids) (known : Known) (formula : List (List ℕ)) (cause : Error) (fault : RunFault) → IsUnread cause fault → ChecksHints ids known formula (Err fault)

@@ -1,14 +1,12 @@
 -- A proof in lines of hints, text or binary.
---     IsToldForm ids n known form      after a formula of n clauses, the form is the one detected from the bytes
 --     Accepts ids h bytes k, Refuses ids h bytes n fault      binary lines are all accepted;  line n is the first that is rejected
 --     AcceptsIn, RefusesIn      so it is with a text in this form
 --     AcceptsProof, IsProofRefusal      so it is with the text of a reader
-use Rattle.std.specs.Prelude.{◌≡◌, ℕ, Bool, List, Option, IfSome}
+use Rattle.std.specs.Prelude.{◌≡◌, ℕ, Bool, List, Option}
 use Rattle.sat_rules.specs.HintLines.{Listed}
 use Rattle.lrat_rules.specs.Lines.{Line}
 use Rattle.lrat_text.specs.Texts.{Ended, Outcome, with_lines}
 use Rattle.lrat_binary.specs.Lines.{binary_of}
-use Rattle.lrat_binary.specs.Telling.{form_of}
 use Rattle.lrat_binary.specs.declared.ids.Ids.{Ids}
 use Rattle.lrat_binary.specs.declared.ids.LratForm.{LratForm}
 use Rattle.lrat_binary.specs.declared.ids.LratForm.TheVariants.{Binary, Text}
@@ -20,10 +18,6 @@ use Rattle.hint_checker.specs.Streams.{GivesText}
 use Rattle.hint_checker.specs.declared.fault.HintTextFault.{HintTextFault}
 use Rattle.hint_checker.specs.declared.fault.HintTextFault.TheVariants.{Read, Refused}
 use Rattle.hint_checker.specs.declared.fault.LineFault.{LineFault}
-
--- the form of a proof, where its bytes are known: the detected one, with the ids as they are given, where they are
-abbrev pub IsToldForm : Option Ids → ℕ → Option (List ℕ) → LratForm → Type 0
-IsToldForm ids n known form = IfSome known (λ bytes. form ≡ form_of ids n bytes)
 
 -- all binary lines of the bytes are accepted after h, and lead to k
 pub record Accepts (ids : Ids) (h : Listed) (bytes : List ℕ) (k : Listed) : Type 0 where

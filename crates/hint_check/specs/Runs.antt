@@ -18,13 +18,14 @@ use Rattle.sat_formula.specs.Outcome.{Ended}
 use Rattle.sat_formula.specs.Whole.{FailsAfter, IsOutcome}
 use Rattle.lrat_binary.specs.declared.ids.Ids.{Ids}
 use Rattle.lrat_binary.specs.declared.ids.LratForm.{LratForm}
+use Rattle.lrat_binary.specs.TakenLines.{IsToldForm}
 use Rattle.hint_checker.specs.declared.fault.HintFault.{HintFault}
 use Rattle.hint_checker.specs.declared.fault.HintFault.TheVariants as hints
 use Rattle.hint_checker.specs.declared.fault.HintTextFault.TheVariants.{Refused}
 use Rattle.sat_formula.specs.Lies.{IsLie}
 use Rattle.whole_writes.specs.Beginnings.{AppendsBeginning}
 use Rattle.verdicts.specs.Verdicts.{shown_line, verdict_of}
-use Rattle.hint_check.specs.Proofs.{AcceptsProof, IsProofRefusal, IsToldForm}
+use Rattle.hint_check.specs.Proofs.{AcceptsProof, IsProofRefusal}
 use Rattle.hint_check.specs.declared.fault.RunFault.{RunFault}
 use Rattle.hint_check.specs.declared.fault.RunFault.TheVariants.{Formula, Hints, Read, Write}
 use Rattle.verdicts.specs.declared.verdict.Verdict.{Verdict}

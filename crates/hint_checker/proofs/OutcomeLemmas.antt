@@ -13,9 +13,11 @@ use Rattle.lrat_rules.specs.Lines.{Line, adds, deletes}
 use Rattle.lrat_text.specs.Grammar.{says}
 use Rattle.lrat_text.specs.Texts.{Ended, Ending, Faulty, Outcome, line_then, lines_from, outcome_of, short_before}
 use Rattle.lrat_text.specs.declared.fault.LineKind.{LineKind}
+use Rattle.lrat_binary.specs.TakenLines.{said}
 use Rattle.hint_rules.specs.Accepted.{Accepts, joined, said_all}
 use Rattle.hint_checker.specs.Checked.{Leads, Refuses, after_said, cause_of, refusal}
 use Rattle.hint_checker.specs.Given.{Stops, as_hints, lines_said}
+use Rattle.hint_checker.specs.Taken.{Runs}
 use Rattle.hint_rules.specs.Text as text
 use Rattle.hint_rules.specs.Text.{Said, in_front, said_by}
 use Rattle.hint_checker.specs.declared.fault.LineFault.{LineFault}
@@ -25,12 +27,11 @@ use Rattle.hint_checker.proofs.Agreement.{SaysAlike, says_alike}
 -- ---- lines that are given
 
 abbrev pub Run : Listed → List (ℕ × Line) → Listed → Type 0
-Run h [] k = k ≡ h
-Run h (x ∷ xs) k = (refusal h (as_hints x.1) ≡ None) × Run (after_said h (as_hints x.1)) xs k
+Run h xs k = Runs h (said xs) k
 
-pub run_more : (h k : Listed) (xs : List (ℕ × Line)) (n : ℕ) (line : Line) → Run h xs k → refusal k (as_hints line) ≡ None → Run h (xs ++ (n, line) ∷ []) (after_said k (as_hints line))
-run_more h k [] n line e r = (subst (λ s. refusal s (as_hints line) ≡ None) e r, ap (λ s. after_said s (as_hints line)) e)
-run_more h k (x ∷ xs) n line run r = (run.0, run_more (after_said h (as_hints x.1)) k xs n line run.1 r)
+pub runs_more : (h k : Listed) (ls : List Line) (line : Line) → Runs h ls k → refusal k (as_hints line) ≡ None → Runs h (ls ++ line ∷ []) (after_said k (as_hints line))
+runs_more h k [] line e r = (subst (λ s. refusal s (as_hints line) ≡ None) e r, ap (λ s. after_said s (as_hints line)) e)
+runs_more h k (l ∷ ls) line run r = (run.0, runs_more (after_said h (as_hints l)) k ls line run.1 r)
 
 -- a line of text is rejected like the line that is given
 same_refusal : (h : Listed) (line : Line) (s : Said) → SaysAlike (Ok (Some line)) s → refusal h s ≡ refusal h (as_hints line)

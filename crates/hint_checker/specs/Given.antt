@@ -2,7 +2,7 @@
 --     ids_along hints      the ids of hints, unless one is against
 --     as_hints line, lines_said ls      the line of hints that a line is, or none;  the lines of hints that lines are
 --     Stops k ls ending n fault      what comes next is rejected, or can't be read
---     of_text fault      the fault of a text that can't be read
+--     of_text fault, of_untaken untaken      the fault of a text that can't be read, or of which a line was not taken
 --     of_bytes fault      that of a text in memory
 --     CollectsIds ids r hints      the ids were collected, or why they were not
 use Rattle.std.specs.Prelude.{◌≡◌, ℕ, List, [], ◌∷◌, Option, Some, None, Result, Ok, Err}
@@ -11,8 +11,10 @@ use Rattle.lrat_rules.specs.Lines.{Hint, Line, adds, against, along, deletes}
 use Rattle.lrat_text.specs.Texts.{Ended, Ending, Faulty}
 use Rattle.lrat_text.specs.declared.fault.LratTextFault.{LratTextFault}
 use Rattle.lrat_text.specs.declared.fault.LratTextFault.TheVariants as reads
+use Rattle.lrat_binary.specs.declared.sink.UntakenLine.{UntakenLine}
+use Rattle.lrat_binary.specs.declared.sink.UntakenLine.TheVariants.{Proof, Sink}
 use Rattle.hint_rules.specs.Accepted.{joined}
-use Rattle.hint_checker.specs.Checked.{refusal}
+use Rattle.hint_checker.specs.Checked.{in_line, refusal}
 use Rattle.hint_rules.specs.Text as text
 use Rattle.hint_rules.specs.Text.{Said, addition, in_front, said}
 use Rattle.hint_checker.specs.declared.fault.HintFault.{HintFault}
@@ -49,6 +51,11 @@ abbrev pub of_text : LratTextFault → HintTextFault
 of_text (reads.Read cause) = Read cause
 of_text (reads.Line n kind) = Refused (faults.Malformed n)
 of_text reads.OutOfMemory = Refused faults.OutOfMemory
+
+-- the fault of a text of which a line was not taken
+abbrev pub of_untaken : UntakenLine LineFault → HintTextFault
+of_untaken (Proof fault) = of_text fault
+of_untaken (Sink n fault) = Refused (in_line fault n)
 
 -- the fault of a text in memory, of which no read fails
 abbrev pub of_bytes : HintTextFault → HintFault

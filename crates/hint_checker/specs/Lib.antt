@@ -3,3 +3,4 @@ pub mod Given
 pub mod Held
 pub mod OneAnswer
 pub mod Streams
+pub mod Taken

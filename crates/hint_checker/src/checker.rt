@@ -9,7 +9,7 @@ ghost use Rattle.hint_rules.specs.Accepted.{Accepts};
 ghost use Rattle.hint_checker.specs.Checked.{AcceptsAfter, IsCause, IsRefusal, after_said, refusal};
 ghost use Rattle.hint_checker.specs.Given.{CollectsIds, as_hints, ids_along};
 ghost use Rattle.hint_checker.specs.Held.{HoldsLittle, IsSmall, held_by, holds};
-ghost use Rattle.hint_checker.specs.Streams.{GivesText, IsTextRefusal, ReadsAccepted};
+ghost use Rattle.hint_checker.specs.Streams.{IsTextRefusal, ReadsAccepted};
 ghost use Rattle.hint_checker.specs.declared.fault.HintFault.TheVariants.{Malformed, OutOfMemory};
 ghost use Rattle.hint_checker.specs.declared.fault.HintTextFault.TheVariants.{Refused};
 ghost use Rattle.hint_checker.specs.declared.fault.LineFault.TheVariants as lines;
@@ -17,7 +17,8 @@ ghost use Rattle.hint_checker.specs.declared.fault.LineFault.TheVariants as line
 use crate::fault::{HintFault, HintTextFault, LineFault};
 use crate::listing::Listing;
 use clause_table::Values;
-use lrat_text::{Hint, LineReader, LratLine};
+use lrat_binary::{LratForm, LratReader, take_lines};
+use lrat_text::{Hint, LratLine};
 use sat_formula::CnfFormula;
 use std::alloc::Global;
 use std::io::Read;
@@ -110,17 +111,12 @@ impl HintChecker {
         if self.faulted {
             return Err(HintTextFault::Refused(HintFault::Malformed { line: 0 }));
         }
-        match check_text(
-            self.alloc,
-            &mut self.held,
-            &mut self.values,
-            &mut self.ids,
-            input,
-        ) {
-            Ok(()) => Ok(self.held.added_empty()),
-            Err(fault) => {
+        let mut reader = LratReader::new(self.alloc, input, LratForm::Text);
+        match take_lines(&mut reader, self) {
+            Ok(()) => Ok(self.added_empty()),
+            Err(untaken) => {
                 self.fail();
-                Err(fault)
+                Err(HintTextFault::from(untaken))
             }
         }
     }
@@ -164,34 +160,6 @@ impl HintChecker {
         ensures { self.new ≡ record self.old { faulted = true } }
     {
         self.faulted = true;
-    }
-}
-
-/// Checks the lines of a text to its end.
-fn check_text<R: Read + Drop>(
-    alloc: Global,
-    held: &mut Listing,
-    values: &mut Values,
-    ids: &mut Vec<u64>,
-    text: R,
-) -> Result<(), HintTextFault>
-    ensures accepted { OnOk result ((given : List ℕ) × GivesText (R.remaining text) given
-        × Accepts (held_by held.old) given (held_by held.new)) }
-    ensures refused { IfErr result (λ fault.
-        IsTextRefusal (R.remaining text) (held_by held.old) fault) }
-    ensures small { IsSmall held.old → OnOk result (IsSmall held.new) }
-{
-    let mut reader = LineReader::new(alloc, text);
-    'lines: loop {
-        match reader.next_line() {
-            Ok(Some(line)) => {
-                if let Err(fault) = check_line(held, values, ids, line) {
-                    return Err(HintTextFault::Refused(fault.in_line(reader.line())));
-                }
-            }
-            Ok(None) => return Ok(()),
-            Err(fault) => return Err(HintTextFault::from(fault)),
-        }
     }
 }
 

@@ -1,9 +1,10 @@
 //! Why lines of hints are rejected.
 ghost use Rattle.std.specs.Prelude.{◌≡◌};
 ghost use Rattle.hint_checker.specs.Checked.{in_line};
-ghost use Rattle.hint_checker.specs.Given.{of_bytes, of_text};
+ghost use Rattle.hint_checker.specs.Given.{of_bytes, of_text, of_untaken};
 ghost use Rattle.hint_checker.specs.declared.fault.LineFault.TheVariants as lines;
 
+use lrat_binary::UntakenLine;
 use lrat_text::LratTextFault;
 use std::alloc::AllocError;
 use std::io;
@@ -53,6 +54,17 @@ impl From<LratTextFault> for HintTextFault {
                 HintTextFault::Refused(HintFault::Malformed { line })
             }
             LratTextFault::OutOfMemory => HintTextFault::Refused(HintFault::OutOfMemory),
+        }
+    }
+}
+
+impl From<UntakenLine<LineFault>> for HintTextFault {
+    ghost from_gives = { λ untaken r. r ≡ of_untaken untaken };
+
+    fn from(untaken: UntakenLine<LineFault>) -> HintTextFault {
+        match untaken {
+            UntakenLine::Proof(fault) => HintTextFault::from(fault),
+            UntakenLine::Sink { line, fault } => HintTextFault::Refused(fault.in_line(line)),
         }
     }
 }

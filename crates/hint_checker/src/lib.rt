@@ -5,6 +5,7 @@ mod checker;
 mod fault;
 pub mod laws;
 mod listing;
+mod sink;
 
 pub use checker::HintChecker;
 pub use fault::{HintFault, HintTextFault, LineFault};

@@ -1,7 +1,6 @@
 -- What a reader of either form gave, said in one way.
 --     Goes      after this many lines the proof continues so, or has ended so
---     IsExact form n      the number of a line of text is exact
-use Rattle.std.proofs.Common.{◌≡◌, ℕ, ◌-◌, ◌^◌, ◌<◌, Bool, true, false, List, [], Option, Some, None, Result, Ok, Err, refl, ap, arith}
+use Rattle.std.proofs.Common.{◌≡◌, ℕ, Bool, true, false, List, [], Option, Some, None, Result, Ok, Err, refl, ap, arith}
 use Rattle.std.proofs.lemmas.Bool.{false_from_ne_true}
 pub use Rattle.sat_formula.specs.Readings.{Known}
 use Rattle.sat_formula.specs.Readings.{Continues, Fails, by_byte, by_end}
@@ -15,6 +14,7 @@ use Rattle.lrat_text.specs.declared.line.LratLine.{LratLine}
 use Rattle.lrat_binary.specs.NextLine as binaries
 use Rattle.lrat_binary.specs.Lines.{binary_after}
 use Rattle.lrat_binary.specs.Proofs.{Gives, IsCounted, bytes_left, form_now, has_ended, line_number, lines_after}
+use Rattle.lrat_binary.specs.TakenLines.{IsExact}
 use Rattle.lrat_binary.specs.declared.ids.Ids.{Ids}
 use Rattle.lrat_binary.specs.declared.ids.LratForm.{LratForm}
 use Rattle.lrat_binary.specs.declared.ids.LratForm.TheVariants as forms
@@ -23,11 +23,6 @@ use Rattle.lrat_binary.specs.declared.proof.LratReader.TheVariants.{Text, Binary
 
 abbrev pub Goes : LratForm → Known → Known → ℕ → Bool → (List ℕ → Outcome) → Type 0
 Goes form a b before over rest = Continues a b over (lines_after form before) rest
-
--- the number of a line of text is exact;  that of a binary line is the one that the proof's lines have
-abbrev pub IsExact : LratForm → ℕ → Type 0
-IsExact forms.Text n = n < 2 ^ 64 - 1
-IsExact (forms.Binary ids) n = Unit {0}
 
 module _ {R : Type 0} (remaining : R → Option (List ℕ)) where
   -- only a reader that has not ended gives something

@@ -9,4 +9,5 @@ pub mod NextLine
 pub mod Telling
 pub mod First
 pub mod Proofs
+pub mod TakenLines
 pub mod Rows

@@ -1,82 +1,95 @@
--- The lines of a proof in turn.
---     SoFar      the lines that were read so far, all of them accepted
-use Rattle.std.proofs.Common.{◌≡◌, ℕ, true, false, List, [], ◌∷◌, ◌++◌, Option, Some, None, Ok, Err, sym}
+-- The lines of a proof, by what a checker did with them.
+--     takes_line, stops_noting      one line more;  one whose id there was no memory to note
+--     answered, unread, rejected      the answer to a proof
+use Rattle.std.proofs.Common.{◌≡◌, ℕ, ◌-◌, Bool, true, false, List, [], ◌∷◌, ◌++◌, length, MatchBool, Option, Some, None, Result, Ok, Err, refl, sym, ap, ◌∙◌, subst, arith, take}
+use Rattle.std.specs.Prelude.{IfErr, IfSome, OnErr, OnOk, ◌^◌, min, if◌then◌else◌}
+use Rattle.sat_formula.specs.Readings.{Known}
+use Rattle.sat_formula.specs.TakenClauses.{Takes}
 use Rattle.lrat_rules.specs.Lines.{Line}
-use Rattle.lrat_text.specs.NextLine.{view}
-use Rattle.lrat_text.specs.Texts.{Ended, Faulty}
+use Rattle.lrat_text.specs.Texts.{Ended, Faulty, Outcome, with_lines}
 use Rattle.lrat_text.specs.declared.fault.LratTextFault.{LratTextFault}
 use Rattle.lrat_text.specs.declared.fault.LratTextFault.TheVariants as reads
-use Rattle.lrat_text.specs.declared.line.LratLine.{LratLine}
-use Rattle.lrat_binary.specs.Proofs.{BeginsWith, Gives, IsFresh, line_number, lines_after, outcome_in}
+use Rattle.lrat_binary.specs.Proofs.{BeginsWith, SaysAll, outcome_in}
+use Rattle.lrat_binary.specs.TakenLines.{Begins, FailsAfter, IsToldForm, TextSays, said}
+use Rattle.lrat_binary.specs.Telling.{form_of, is_binary, next_id, told_before}
+use Rattle.lrat_binary.specs.declared.ids.Ids.{Ids}
 use Rattle.lrat_binary.specs.declared.ids.LratForm.{LratForm}
-use Rattle.lrat_binary.specs.declared.proof.LratReader.{LratReader}
-use Rattle.lrat_binary.proofs.GivenLines.{HasGiven, all_said, begins_so, given_begun, given_end, given_fault, given_more, given_start}
-use Rattle.lrat_binary.proofs.ReadLemmas.{Known}
+use Rattle.lrat_binary.specs.declared.ids.LratForm.TheVariants as forms
+use Rattle.lrat_binary.proofs.GivenLines.{begins_less, told_says}
 use Rattle.lrat_checker.specs.Faults.{in_line, of_text}
 use Rattle.lrat_checker.specs.Standing.{HasAccepted, IsAnswer, IsReady, has_refuted}
-use Rattle.lrat_checker.specs.TextAnswers.{said}
 use Rattle.lrat_checker.specs.declared.checker.LratChecker.{LratChecker}
 use Rattle.lrat_checker.specs.declared.fault.LineFault.{LineFault}
 use Rattle.lrat_checker.specs.declared.fault.LineFault.TheVariants as faults
-use Rattle.lrat_checker.specs.declared.fault.LratFault.TheVariants as answers
-use Rattle.lrat_checker.proofs.TextLemmas.{said-more}
-use Rattle.lrat_check.specs.Answers.{IsLratAnswer}
+use Rattle.lrat_check.specs.Answers.{IsLratAnswer, proof_says}
+use Rattle.lrat_check.specs.Known.{added_by}
+use Rattle.lrat_check.specs.Taken.{HasChecked, HasRejected}
+use Rattle.lrat_check.specs.declared.stored.KnownIds.{KnownIds}
+use Rattle.lrat_check.proofs.KnownLemmas.{knows_more}
 
--- ---- the loop over lines
+-- ---- one line
 
-pub record SoFar {R : Type 0} (remaining : R → Option (List ℕ)) (known : Known) (form : LratForm) (reader : LratReader R) (formula : List (List ℕ)) (c : LratChecker) : Type 0 where
-  pub lines : List (ℕ × Line)
-  pub given : HasGiven remaining known form reader lines
-  pub ready : IsReady formula (said lines) c
+module _ (old : LratChecker) (known : KnownIds) (ls : List Line) (c : LratChecker) (k : KnownIds) (so : HasChecked old known ls c k) (line : Line) (wanted : has_refuted c ≡ false) where
+  -- its id was noted
+  pub takes_line : (d : LratChecker) (m : KnownIds) → m.count ≡ k.count → m.asked ≡ k.asked → (k.asked ≡ true → m.added.items ≡ k.added.items ++ added_by line) → (r : Result (Unit {0}) LineFault) →
+      ((formula : List (List ℕ)) (lines : List Line) → IsReady formula lines c → OnOk r (IsReady formula (lines ++ line ∷ []) d)) →
+      ((formula : List (List ℕ)) (lines : List Line) → IsReady formula lines c → IfErr r (λ fault. IsAnswer formula lines line fault)) →
+      ((formula : List (List ℕ)) (lines : List Line) → HasAccepted formula lines c → OnErr r (HasAccepted formula lines d)) →
+      OnErr r (has_refuted d ≡ has_refuted c) → Takes r (HasChecked old known (ls ++ line ∷ []) d m) (λ fault. HasRejected old ls line fault d)
+  takes_line d m count asked added (Ok done) accepted refused kept stays = record {
+    ready = λ formula ready. accepted formula ls (so.ready formula ready);
+    asked = asked ∙ so.asked;
+    knows = λ formula is knows. knows_more formula c d k m line (so.knows formula is knows) (accepted formula) count (added (so.asked ∙ is));
+  }
+  takes_line d m count asked added (Err fault) accepted refused kept stays = record {
+    accepted = λ formula ready. kept formula ls (so.ready formula ready).accepted;
+    answer = λ formula ready. refused formula ls (so.ready formula ready);
+    unrefuted = stays ∙ wanted;
+  }
 
--- the proof begins with lines that were given
-begins : {R : Type 0} (remaining : R → Option (List ℕ)) (known : Known) (form : LratForm) (reader : LratReader R) (lines : List (ℕ × Line)) →
-    HasGiven remaining known form reader lines → BeginsWith (outcome_in form) known lines
-begins remaining known form reader lines given =
-    begins_so known (outcome_in form) lines (λ more. lines_after form (line_number reader) more) (given_begun remaining known form reader lines given)
+  -- it was not
+  pub stops_noting : HasRejected old ls line faults.OutOfMemory c
+  stops_noting = record { accepted = λ formula ready. (so.ready formula ready).accepted; answer = λ formula ready. tt; unrefuted = wanted }
 
-module _ {R : Type 0} {remaining : R → Option (List ℕ)} {known : Known} {form : LratForm} {old : LratReader R} {formula : List (List ℕ)} {c : LratChecker} where
-  pub so_far_start : IsFresh remaining known form old → IsReady formula [] c → SoFar remaining known form old formula c
-  so_far_start fresh ready = record { lines = []; given = given_start remaining known form old fresh; ready = ready }
+-- ---- a proof
 
-  module _ (so : SoFar remaining known form old formula c) where
-    -- no more is asked for
-    pub so_far_done : has_refuted c ≡ true → IsLratAnswer (outcome_in form) known formula c (Ok true)
-    so_far_done is = record { lines = so.lines; text = begins remaining known form old so.lines so.given; ready = so.ready; answer = sym is }
+forms_alike : (ids : Option Ids) (n m : ℕ) (bytes : List ℕ) → next_id n ≡ next_id m → form_of ids n bytes ≡ form_of ids m bytes
+forms_alike (Some i) n m bytes e = refl
+forms_alike None n m bytes e = ap (λ (k : ℕ). if is_binary (take 4096 bytes) then forms.Binary (told_before k (take 4096 bytes)) else forms.Text) e
 
-    -- there is no memory for more
-    pub so_far_stopped : IsLratAnswer (outcome_in form) known formula c (Err answers.OutOfMemory)
-    so_far_stopped = record { lines = so.lines; text = begins remaining known form old so.lines so.given; accepted = so.ready.accepted }
+-- the form that was detected after as many clauses as a number can count
+told_alike : (ids : Option Ids) (n m : ℕ) (known : Known) (form : LratForm) → n ≡ min m (2 ^ 64 - 1) → IsToldForm ids n known form → IsToldForm ids m known form
+told_alike ids n m None form counted told = tt
+told_alike ids n m (Some bytes) form counted told = let same : next_id n ≡ next_id m = omega arith in told ∙ forms_alike ids n m bytes same
 
-    module _ (new : LratReader R) where
-      more_given : (line : LratLine) → Gives remaining old new (Ok (Some line)) → HasGiven remaining known form new (so.lines ++ (line_number new, view line) ∷ [])
-      more_given line gives = given_more remaining known form old so.lines so.given new line gives
+module _ (ids : Option Ids) (formula : List (List ℕ)) (count : ℕ) (known : Known) (form : LratForm) (counted : count ≡ min (length formula) (2 ^ 64 - 1)) (told : IsToldForm ids count known form)
+    (c : LratChecker) (lines : List (ℕ × Line)) where
+  says_so : (o : Outcome) → TextSays (outcome_in form) known o → IfSome known (λ bytes. proof_says ids formula bytes ≡ o)
+  says_so o t = told_says ids (length formula) known form (told_alike ids count (length formula) known form counted told) o t
 
-      pub so_far_more : (line : LratLine) → Gives remaining old new (Ok (Some line)) → (d : LratChecker) → (IsReady formula (said so.lines) c → IsReady formula (said so.lines ++ view line ∷ []) d) →
-          SoFar remaining known form new formula d
-      so_far_more line gives d more =
-          let ready : IsReady formula (said (so.lines ++ (line_number new, view line) ∷ [])) d = rw (said-more so.lines (line_number new) (view line)) (more so.ready) in
-          search (more_given line gives, ready)
+  begins_so : (ls : List (ℕ × Line)) → Begins form known ls → BeginsWith (proof_says ids formula) known ls
+  begins_so ls b = (b.0, says_so (with_lines ls b.0) b.1)
 
-      pub so_far_refused : (line : LratLine) → Gives remaining old new (Ok (Some line)) → (d : LratChecker) (fault : LineFault) →
-          (HasAccepted formula (said so.lines) c → HasAccepted formula (said so.lines) d) →
-          (IsReady formula (said so.lines) c → IsAnswer formula (said so.lines) (view line) fault) →
-          IsLratAnswer (outcome_in form) known formula d (Err (in_line fault (line_number new)))
-      so_far_refused line gives d (faults.Refused cause) kept told = search (
-        begins remaining known form new (so.lines ++ (line_number new, view line) ∷ []) (more_given line gives),
-        kept so.ready.accepted,
-        told so.ready,
-      )
-      so_far_refused line gives d faults.OutOfMemory kept told = search (begins remaining known form old so.lines so.given, kept so.ready.accepted)
-      so_far_refused line gives d faults.Failed kept told = absurd (told so.ready)
+  -- all lines were accepted, or those up to the empty clause
+  pub answered : IsReady formula (said lines) c → MatchBool (has_refuted c) (Begins form known lines) (TextSays (outcome_in form) known (lines, Ended)) → (found : Bool) → found ≡ has_refuted c →
+      IsLratAnswer (proof_says ids formula) known formula c (Ok found)
+  answered ready text found is = record { lines = lines; text = go found (subst (λ b. MatchBool b (Begins form known lines) (TextSays (outcome_in form) known (lines, Ended))) (sym is) text); ready = ready; answer = is }
+    where
+      go : (b : Bool) → MatchBool b (Begins form known lines) (TextSays (outcome_in form) known (lines, Ended)) →
+          MatchBool b (BeginsWith (proof_says ids formula) known lines) (SaysAll (proof_says ids formula) known lines Ended)
+      go true t = begins_so lines t
+      go false t = says_so (lines, Ended) t
 
-      -- the fault of a line
-      pub so_far_fault : (fault : LratTextFault) → Gives remaining old new (Err fault) → IsLratAnswer (outcome_in form) known formula c (Err (of_text fault))
-      so_far_fault (reads.Line n kind) gives =
-          search (all_said known (outcome_in form) so.lines (Faulty n kind) (given_fault remaining known form old so.lines so.given new n kind gives), so.ready)
-      so_far_fault fault gives = so_far_stopped
+  module _ (accepted : HasAccepted formula (said lines) c) where
+    -- the next one can't be read
+    pub unread : (fault : LratTextFault) → FailsAfter form known lines fault → IsLratAnswer (proof_says ids formula) known formula c (Err (of_text fault))
+    unread (reads.Read cause) f = record { lines = lines; text = begins_so lines f.0; accepted = accepted }
+    unread (reads.Line n kind) f = record { lines = lines; text = says_so (lines, Faulty n kind) f.0; accepted = accepted }
+    unread reads.OutOfMemory f = record { lines = lines; text = begins_so lines f; accepted = accepted }
 
-      -- the end of the proof
-      pub so_far_ended : Gives remaining old new (Ok None) → has_refuted c ≡ false → IsLratAnswer (outcome_in form) known formula c (Ok false)
-      so_far_ended gives is =
-          search (all_said known (outcome_in form) so.lines Ended (given_end remaining known form old so.lines so.given new gives), so.ready, sym is)
+    -- it is rejected
+    pub rejected : (line : Line) (n : ℕ) → Begins form known (lines ++ (n, line) ∷ []) → (fault : LineFault) → IsAnswer formula (said lines) line fault →
+        IsLratAnswer (proof_says ids formula) known formula c (Err (in_line fault n))
+    rejected line n b (faults.Refused cause) answer = record { lines = lines; line = line; text = begins_so (lines ++ (n, line) ∷ []) b; accepted = accepted; refused = answer }
+    rejected line n b faults.OutOfMemory answer = record { lines = lines; text = begins_so lines (begins_less form known lines n line b); accepted = accepted }
+    rejected line n b faults.Failed answer = absurd answer

@@ -6,8 +6,8 @@ use Rattle.std.proofs.Common.{◌≡◌, ℕ, Bool, true, false, List, MatchBool
 use Rattle.std.specs.Option.{option_map}
 use Rattle.sat_rules.specs.Named.{Item}
 use Rattle.refutation_rules.proofs.Joining.{piece_carries}
+use Rattle.lrat_binary.specs.TakenLines.{said}
 use Rattle.lrat_binary.specs.declared.ids.Ids.{Ids}
-use Rattle.lrat_checker.specs.TextAnswers.{said}
 use Rattle.lrat_checker.specs.declared.checker.LratChecker.{LratChecker}
 use Rattle.sat_formula.specs.Readings.{Known}
 use Rattle.sat_formula.specs.declared.counts.LyingHeader.{LyingHeader}

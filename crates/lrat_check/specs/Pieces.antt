@@ -12,8 +12,8 @@ use Rattle.lrat_rules.specs.Lines.{Line, is_refuted, run}
 use Rattle.lrat_rules.specs.Stores.{formula_store}
 use Rattle.lrat_text.specs.Texts.{Ended}
 use Rattle.lrat_binary.specs.Proofs.{SaysAll}
+use Rattle.lrat_binary.specs.TakenLines.{said}
 use Rattle.lrat_binary.specs.declared.ids.Ids.{Ids}
-use Rattle.lrat_checker.specs.TextAnswers.{said}
 use Rattle.lrat_checker.specs.declared.fault.LratFault.{LratFault}
 use Rattle.sat_formula.specs.declared.counts.LyingHeader.{LyingHeader}
 use Rattle.sat_formula.specs.Lies.{IsLie}

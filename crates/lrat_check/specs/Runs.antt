@@ -15,9 +15,9 @@ use Rattle.sat_formula.specs.Lines as dimacs
 use Rattle.sat_formula.specs.Outcome.{Ended}
 use Rattle.sat_formula.specs.Whole.{IsOutcome}
 use Rattle.lrat_rules.specs.Lines.{is_refuted}
+use Rattle.lrat_binary.specs.TakenLines.{said}
 use Rattle.lrat_binary.specs.declared.ids.Ids.{Ids}
 use Rattle.lrat_checker.specs.Standing.{has_refuted}
-use Rattle.lrat_checker.specs.TextAnswers.{said}
 use Rattle.sat_formula.specs.Lies.{IsLie}
 use Rattle.whole_writes.specs.Beginnings.{AppendsBeginning}
 use Rattle.lrat_checker.specs.declared.checker.LratChecker.{LratChecker}

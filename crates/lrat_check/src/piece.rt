@@ -11,7 +11,7 @@ ghost use Rattle.verdicts.specs.declared.piece.PieceVerdict.TheVariants.{Refuted
 use crate::fault::RunFault;
 use crate::formula::{Held, read_held};
 use crate::piece_fault::PieceFault;
-use crate::refuting::refute_after;
+use crate::refuting::{Checking, refute_after};
 use crate::stored::{KnownIds, holds_all};
 use lrat_binary::Ids;
 use lrat_checker::LratFault;
@@ -136,16 +136,18 @@ fn judge_piece<P: Read + Drop>(
     ensures kept { result ≢ Ok NotCarried → missing.new ≡ missing.old }
 {
     let Held { clauses, count } = held;
-    let mut checker = clauses.checker();
-    let mut known = KnownIds::of_formula(alloc, count);
-    let refuted = match refute_after(alloc, &mut checker, count, piece, ids, &mut known) {
+    let mut checking = Checking {
+        checker: clauses.checker(),
+        known: KnownIds::of_formula(alloc, count),
+    };
+    let refuted = match refute_after(alloc, &mut checking, count, piece, ids) {
         Ok(refuted) => refuted,
         Err(fault) => return Err(fault),
     };
     if refuted {
         return Ok(PieceVerdict::Refuted);
     }
-    match holds_all(alloc, &checker, &known, wanted, missing) {
+    match holds_all(alloc, &checking.checker, &checking.known, wanted, missing) {
         Ok(held) => Ok(verdict_by(held)),
         Err(_) => Err(LratFault::OutOfMemory),
     }

@@ -5,6 +5,4 @@ pub mod HeldLemmas
 pub mod JudgeLemmas
 pub mod StandLemmas
 pub mod FormulaLemmas
-pub mod TextLemmas
-pub mod ReadingLemmas
 pub mod NameLemmas

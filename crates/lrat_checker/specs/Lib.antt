@@ -8,4 +8,3 @@ pub mod Grouping
 pub mod Met
 pub mod Held
 pub mod Standing
-pub mod TextAnswers

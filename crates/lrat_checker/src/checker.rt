@@ -1,5 +1,5 @@
 //! The checker of LRAT proofs.
-ghost use Rattle.std.specs.Prelude.{◌≡◌, ◌∷◌, ◌++◌, ◌||◌, ◌&&◌, ◌↔◌, ℕ, Bool, true, false, [], List, None, Some, Err, IfErr, IfOk, IsTrue, OnOk, OnErr, option_copied};
+ghost use Rattle.std.specs.Prelude.{◌≡◌, ◌∷◌, ◌++◌, ◌||◌, ◌↔◌, ℕ, Bool, true, false, [], List, None, Some, Err, IfErr, IfOk, IsTrue, OnOk, OnErr, option_copied};
 ghost use Rattle.sat_rules.specs.Clauses.{all_true};
 ghost use Rattle.sat_rules.specs.Named.{NamedBy};
 ghost use Rattle.lrat_rules.specs.Lines.{Line, adds_empty};
@@ -8,24 +8,21 @@ ghost use Rattle.lrat_rules.specs.Tables.{cause_by_table, table_after};
 ghost use Rattle.refutation_rules.specs.Carrying.{Carries};
 ghost use Rattle.lrat_checker.specs.Causes.{IsCause};
 ghost use Rattle.lrat_checker.specs.declared.fault.LineFault.TheVariants.{Failed};
-ghost use Rattle.lrat_checker.specs.declared.fault.LratFault.TheVariants as texts;
 ghost use Rattle.lrat_checker.specs.Held.{table_of};
 ghost use Rattle.lrat_text.specs.NextLine.{view};
 
 use crate::clauses::Clauses;
-use crate::fault::{LineFault, LratFault, Stop};
+use crate::fault::{LineFault, Stop};
 use crate::formula::LratFormula;
 use crate::judging::judge;
 use crate::work::Work;
-use lrat_text::{LineReader, LratLine, LratTextFault};
+use lrat_text::LratLine;
 use sat_formula::{CnfFormula, Lit};
 use std::alloc::{AllocError, Global};
-use std::io::Read;
 
 /// A checker of the lines of an LRAT proof over a formula, RAT steps included.
 #[derive(Drop)]
 pub struct LratChecker {
-    alloc: Global,
     clauses: Clauses,
     work: Work,
     refuted: bool,
@@ -34,8 +31,6 @@ pub struct LratChecker {
 
 impl LratChecker {
     ghost use Rattle.lrat_checker.specs.Standing.{HasAccepted, HoldsLittle, IsAnswer, IsReady, has_failed, has_refuted};
-    ghost use Rattle.lrat_checker.specs.TextAnswers.{IfCut, IsCut, IsTextAnswer};
-    ghost use Rattle.lrat_checker.specs.Faults.{of_text};
 
     /// Returns a checker that stores the clauses of a formula under 1, 2 and so on.
     ///
@@ -61,7 +56,6 @@ impl LratChecker {
         ensures failed { result.failed ≡ failed }
     {
         LratChecker {
-            alloc,
             clauses,
             work: Work::new(alloc),
             refuted: has_empty,
@@ -141,105 +135,6 @@ impl LratChecker {
                 Err(stop.fault())
             }
         }
-    }
-
-    /// Checks the lines of a text after those of earlier calls. Returns whether the formula has the
-    /// empty clause or some line so far added it: then no assignment satisfies the formula.
-    ///
-    /// The text is read as a stream, line by line.
-    ///
-    /// # Errors
-    ///
-    /// The first line that is rejected (`Refused`) or can't be read (`Unread`), a failed read or
-    /// out of memory. After it every later call returns `Failed`.
-    pub fn check<R: Read + Drop>(&mut self, proof: R) -> Result<bool, LratFault>
-        ensures checked { (formula : List (List ℕ)) (lines : List Line)
-            → IsReady formula lines self.old
-            → IsTextAnswer false (R.remaining proof) formula lines self.new result }
-        ensures cut { (formula : List (List ℕ)) (lines : List Line)
-            → IsReady formula lines self.old
-            → IfCut result (IsCut R.remaining (R.remaining proof) formula lines self.new) }
-        ensures fails { OnErr result (has_failed self.new ≡ true) }
-        ensures tight { HoldsLittle self.old → OnOk result (HoldsLittle self.new) }
-        ensures failed { has_failed self.old ≡ true
-            → (result ≡ Err texts.Failed) × (self.new ≡ self.old) }
-    {
-        self.check_text(proof, false)
-    }
-
-    /// Checks a text up to the first line that adds the empty clause, and returns whether there is
-    /// one. What follows that line is not checked. If the formula has the empty clause, nothing is.
-    ///
-    /// # Errors
-    ///
-    /// As for `check`.
-    pub fn refute<R: Read + Drop>(&mut self, proof: R) -> Result<bool, LratFault>
-        ensures checked { (formula : List (List ℕ)) (lines : List Line)
-            → IsReady formula lines self.old
-            → IsTextAnswer true (R.remaining proof) formula lines self.new result }
-        ensures cut { (formula : List (List ℕ)) (lines : List Line)
-            → IsReady formula lines self.old
-            → IfCut result (IsCut R.remaining (R.remaining proof) formula lines self.new) }
-        ensures fails { OnErr result (has_failed self.new ≡ true) }
-        ensures tight { HoldsLittle self.old → OnOk result (HoldsLittle self.new) }
-        ensures stops { has_failed self.old ≡ false → OnErr result (has_refuted self.new ≡ false) }
-        ensures failed { has_failed self.old ≡ true
-            → (result ≡ Err texts.Failed) × (self.new ≡ self.old) }
-    {
-        self.check_text(proof, true)
-    }
-
-    /// Checks the lines of a text, all of them or up to the empty clause.
-    fn check_text<R: Read + Drop>(
-        &mut self,
-        proof: R,
-        until_refuted: bool,
-    ) -> Result<bool, LratFault>
-        ensures checked { (formula : List (List ℕ)) (lines : List Line)
-            → IsReady formula lines self.old
-            → IsTextAnswer until_refuted (R.remaining proof) formula lines self.new result }
-        ensures cut { (formula : List (List ℕ)) (lines : List Line)
-            → IsReady formula lines self.old
-            → IfCut result (IsCut R.remaining (R.remaining proof) formula lines self.new) }
-        ensures fails { OnErr result (has_failed self.new ≡ true) }
-        ensures tight { HoldsLittle self.old → OnOk result (HoldsLittle self.new) }
-        ensures stops { has_failed self.old ≡ false → until_refuted ≡ true
-            → OnErr result (has_refuted self.new ≡ false) }
-        ensures failed { has_failed self.old ≡ true
-            → (result ≡ Err texts.Failed) × (self.new ≡ self.old) }
-    {
-        if self.failed {
-            return Err(LratFault::Failed);
-        }
-        let mut reader = LineReader::new(self.alloc, proof);
-        'lines: while !self.is_done(until_refuted) {
-            match reader.next_line() {
-                Ok(Some(line)) => {
-                    if let Err(fault) = self.check_line(line) {
-                        return Err(fault.in_line(reader.line()));
-                    }
-                }
-                Ok(None) => return Ok(self.refuted),
-                Err(fault) => return Err(self.unreadable(fault)),
-            }
-        }
-        Ok(self.refuted)
-    }
-
-    /// Returns whether nothing more is asked for.
-    fn is_done(&self, until_refuted: bool) -> bool
-        ensures { result ≡ (until_refuted && has_refuted self.now) }
-    {
-        until_refuted && self.refuted
-    }
-
-    /// Fails for a text that can't be read.
-    fn unreadable(&mut self, fault: LratTextFault) -> LratFault
-        ensures fault { result ≡ of_text fault }
-        ensures failed { self.new ≡ record self.old { failed = true } }
-    {
-        self.failed = true;
-        LratFault::from(fault)
     }
 
     /// Checks a line, and does what it says.

@@ -94,7 +94,7 @@ impl Stop {
 
 impl LineFault {
     /// Returns the fault of the line of that number in a text.
-    pub(crate) fn in_line(self, line: u64) -> LratFault
+    pub fn in_line(self, line: u64) -> LratFault
         ensures { result ≡ in_line self line }
     {
         match self {

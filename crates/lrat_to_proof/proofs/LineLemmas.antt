@@ -1,29 +1,28 @@
--- The lines of a proof in turn.
+-- The lines of a proof, by what a converter did with them.
 --     run-more      one line more at the end
---     SoFar      the lines that were read so far, all of them converted
---     given_up_first, begun_end, given_up      a proof that was given up before its lines and after them
+--     takes_line      what was done with it
+--     converts, unread, stopped      all lines were converted;  the next one can't be read;  it was not converted
+--     given_up, given_up_first, begun_end      a proof that was given up, before its lines and after them
 use Rattle.std.proofs.Common.{◌≡◌, ℕ, Bool, true, false, List, [], ◌∷◌, ◌++◌, ◌⊎◌, inl, inr, Option, Some, None, Result, Ok, Err, MatchBool, refl, sym, ap, ◌∙◌, append-nil, subst, cond}
-use Rattle.std.specs.Prelude.{IfSome}
+use Rattle.std.specs.Prelude.{IfErr, IfSome, OnOk}
+use Rattle.sat_formula.specs.TakenClauses.{Takes}
 use Rattle.lrat_rules.specs.Lines.{Line}
-use Rattle.lrat_text.specs.NextLine.{view}
-use Rattle.lrat_text.specs.Texts.{Ended, Ending, Faulty, Outcome}
+use Rattle.lrat_text.specs.Texts.{Ended, Ending, Faulty, Outcome, with_lines}
 use Rattle.lrat_text.specs.declared.fault.LratTextFault.{LratTextFault}
 use Rattle.lrat_text.specs.declared.fault.LratTextFault.TheVariants as reads
-use Rattle.lrat_text.specs.declared.line.LratLine.{LratLine}
-use Rattle.lrat_binary.specs.Proofs.{BeginsWith, Gives, IsFresh, IsNoLine, SaysAll, line_number, lines_after, outcome_in}
-use Rattle.lrat_binary.specs.Telling.{form_of}
+use Rattle.lrat_binary.specs.Proofs.{BeginsWith, SaysAll, outcome_in}
+use Rattle.lrat_binary.specs.TakenLines.{Begins, FailsAfter, IsToldForm, TextSays, said}
 use Rattle.lrat_binary.specs.declared.ids.Ids.{Ids}
 use Rattle.lrat_binary.specs.declared.ids.LratForm.{LratForm}
-use Rattle.lrat_binary.specs.declared.proof.LratReader.{LratReader}
-use Rattle.lrat_binary.proofs.GivenLines.{HasGiven, all_said, begins_as, begins_so, given_begun, given_end, given_fault, given_more, given_start, says_as}
+use Rattle.lrat_binary.proofs.GivenLines.{begins_less, said-more, told_says}
 use Rattle.lrat_binary.proofs.ReadLemmas.{Known}
-use Rattle.lrat_checker.specs.TextAnswers.{said}
-use Rattle.lrat_checker.proofs.TextLemmas.{said-more}
 use Rattle.lrat_to_proof.specs.Converting.{Converted, next, next_open, run, then_run, whole}
 use Rattle.lrat_to_proof.specs.Faults.{IsCause, IsGivenUp, IsRefusal, giving_up, in_line, of_text}
 use Rattle.lrat_to_proof.specs.Runs.{ConvertsLines, IsBegun, IsStopped, Leads, proof_says}
 use Rattle.lrat_to_proof.specs.Standing.{HasBegun, HasConverted, Reaches, StopsIn, holding_of}
+use Rattle.lrat_to_proof.specs.Taken.{HasStopped, HasTaken, StopsAt}
 use Rattle.lrat_to_proof.specs.declared.converter.Converter.{Converter}
+use Rattle.lrat_to_proof.specs.declared.fault.ConvertFault.{ConvertFault}
 use Rattle.lrat_to_proof.specs.declared.fault.GivenUp.{GivenUp}
 use Rattle.lrat_to_proof.specs.declared.fault.GivenUp.TheVariants as reasons
 use Rattle.lrat_to_proof.specs.declared.fault.LineCause.{LineCause}
@@ -46,37 +45,49 @@ run-more : (width : ℕ) (c : Converted) (ls : List Line) (l : Line) → run wid
 run-more width c [] l = then_run-ok (next_open width c l)
 run-more width c (m ∷ ms) l = run-after width ms l (λ d. run-more width d ms l) (next_open width c m)
 
-run_on : (width : ℕ) (c d e : Converted) (ls : List (ℕ × Line)) (n : ℕ) (l : Line) → run width c (said ls) ≡ Ok d → d.held.refuted ≡ false → next width d l ≡ Ok e →
-    run width c (said (ls ++ (n, l) ∷ [])) ≡ Ok e
-run_on width c d e ls n l ran is_open more =
-    ap (run width c) (said-more ls n l) ∙ run-more width c (said ls) l ∙ ap (λ r. then_run r (λ d. next_open width d l)) ran
-    ∙ ap (λ b. cond b (Ok d) (next width d l)) is_open ∙ more
+run_on : (width : ℕ) (c d e : Converted) (ls : List Line) (l : Line) → run width c ls ≡ Ok d → d.held.refuted ≡ false → next width d l ≡ Ok e → run width c (ls ++ l ∷ []) ≡ Ok e
+run_on width c d e ls l ran is_open more =
+    run-more width c ls l ∙ ap (λ r. then_run r (λ d. next_open width d l)) ran ∙ ap (λ b. cond b (Ok d) (next width d l)) is_open ∙ more
 
 -- whether the converter wants no more is what is known of the lines so far
-pub done-is : (width : ℕ) (start now : Option (List ℕ)) (c : Converted) (x : Converter) (b : Bool) → HasConverted width start now c x → (holding_of x.held).refuted ≡ b → c.held.refuted ≡ b
+done-is : (width : ℕ) (start now : Option (List ℕ)) (c : Converted) (x : Converter) (b : Bool) → HasConverted width start now c x → (holding_of x.held).refuted ≡ b → c.held.refuted ≡ b
 done-is width start now c x b h e = subst (λ held. held.refuted ≡ b) h.held e
 
--- ---- the loop over lines
+-- ---- one line
 
--- the lines so far, and how the proof continues
-pub record SoFar {R : Type 0} (remaining : R → Option (List ℕ)) (known : Known) (form : LratForm) (reader : LratReader R) (width : ℕ) (c : Converted) (start now : Option (List ℕ)) (x : Converter) : Type
-    0 where
-  pub lines : List (ℕ × Line)
-  pub after : Converted
-  pub given : HasGiven remaining known form reader lines
-  pub ran : run width c (said lines) ≡ Ok after
-  pub stands : HasConverted width start now after x
+-- P and Q are what else is known of the sink
+module _ {P Q W : Type 0} (p : P) (q : Q) (contents : W → Option (List ℕ)) (old : Option (List ℕ)) (x : Converter) (ls : List Line) (v : W) (y : Converter) (so : HasTaken old x ls (contents v) y)
+    (line : Line) (wanted : (holding_of y.held).refuted ≡ false) (w : W) (z : Converter) where
+  pub takes_line : (r : Result (Unit {0}) Stop) →
+      ((width : ℕ) (start : Option (List ℕ)) (c : Converted) → HasConverted width start (contents v) c y → OnOk r (Reaches width start (contents w) (next width c line) z)) →
+      ((width : ℕ) (start : Option (List ℕ)) (c : Converted) → HasConverted width start (contents v) c y → IfErr r (λ stop. IsCause stop (next width c line))) →
+      IfErr r (λ stop. IsRefusal stop → w ≡ v) →
+      ((width : ℕ) (start : Option (List ℕ)) (c : Converted) → HasConverted width start (contents v) c y → IfErr r (λ stop. IsGivenUp stop → StopsIn start (contents w) c (next width c line))) →
+      Takes r (P × Q × HasTaken old x (ls ++ line ∷ []) (contents w) z) (λ stop. P × Q × HasStopped old x ls line stop (contents w))
+  takes_line (Ok done) ok err kept given_up = (
+    p,
+    q,
+    λ width start c h.
+        let d = so width start c h in
+        let reached = ok width start d.0 d.2 in
+        (reached.after, run_on width c d.0 reached.after ls line d.1 (done-is width start (contents v) d.0 y false d.2 wanted) reached.ran, reached.stands),
+  )
+  takes_line (Err stop) ok err kept given_up = (
+    p,
+    q,
+    λ width start c h.
+        let d = so width start c h in
+        record {
+          before = d.0;
+          ran = d.1;
+          is_open = done-is width start (contents v) d.0 y false d.2 wanted;
+          cause = err width start d.0 d.2;
+          written = λ r. rw (kept r) d.2.written.bytes;
+          begun = given_up width start d.0 d.2;
+        },
+  )
 
--- what bytes say that are read in this form
-abbrev pub ReadSo : (List ℕ → Outcome) → Known → LratForm → Type 0
-ReadSo says known form = IfSome known (λ bytes. says bytes ≡ outcome_in form bytes)
-
--- the proof begins with lines that were given
-begins : {R : Type 0} (remaining : R → Option (List ℕ)) (says : List ℕ → Outcome) (known : Known) (form : LratForm) → ReadSo says known form → (reader : LratReader R) (lines : List (ℕ × Line)) →
-    HasGiven remaining known form reader lines → BeginsWith says known lines
-begins remaining says known form same reader lines given =
-    begins_as known (outcome_in form) says same lines
-    (begins_so known (outcome_in form) lines (λ more. lines_after form (line_number reader) more) (given_begun remaining known form reader lines given))
+-- ---- a proof
 
 -- nothing more could be written
 pub given_up : (says : List ℕ → Outcome) (known : Known) (width : ℕ) (c : Converted) (start now : Option (List ℕ)) (why : GivenUp) →
@@ -84,130 +95,95 @@ pub given_up : (says : List ℕ → Outcome) (known : Known) (width : ℕ) (c : 
 given_up says known width c start now (reasons.Write cause) begun = begun
 given_up says known width c start now reasons.OutOfMemory begun = begun
 
-module _ {R : Type 0} (remaining : R → Option (List ℕ)) (known : Known) (form : LratForm) (old : LratReader R) (width : ℕ) (c : Converted) (start now : Option (List ℕ)) (x : Converter) where
-  pub so_far_start : IsFresh remaining known form old → HasConverted width start now c x → SoFar remaining known form old width c start now x
-  so_far_start fresh h = record { lines = []; after = c; given = given_start remaining known form old fresh; ran = refl; stands = h }
+module _ (ids : Option Ids) (n : ℕ) (known : Known) (form : LratForm) (told : IsToldForm ids n known form) (width : ℕ) (c : Converted) (start now : Option (List ℕ)) (lines : List (ℕ × Line)) where
+  says_so : (o : Outcome) → TextSays (outcome_in form) known o → IfSome known (λ bytes. proof_says ids n bytes ≡ o)
+  says_so = told_says ids n known form told
 
-  module _ (so : SoFar remaining known form old width c start now x) where
-    still_open : (holding_of x.held).refuted ≡ false → so.after.held.refuted ≡ false
-    still_open wanted = done-is width start now so.after x false so.stands wanted
+  begins_so : (ls : List (ℕ × Line)) → Begins form known ls → BeginsWith (proof_says ids n) known ls
+  begins_so ls b = (b.0, says_so (with_lines ls b.0) b.1)
 
-    module _ (new : LratReader R) where
-      more_given : (line : LratLine) → Gives remaining old new (Ok (Some line)) → HasGiven remaining known form new (so.lines ++ (line_number new, view line) ∷ [])
-      more_given line gives = given_more remaining known form old so.lines so.given new line gives
+  -- all lines were converted, or those up to the last that is needed
+  pub converts : (x : Converter) → (d : Converted) × (run width c (said lines) ≡ Ok d) × HasConverted width start now d x →
+      MatchBool (holding_of x.held).refuted (Begins form known lines) (TextSays (outcome_in form) known (lines, Ended)) → ConvertsLines (proof_says ids n) known width c start now x (Ok tt)
+  converts x took text = (
+    lines,
+    took.0,
+    record {
+      text = go took.0.held.refuted (subst (λ held. MatchBool held.refuted (Begins form known lines) (TextSays (outcome_in form) known (lines, Ended))) took.2.held text);
+      ran = took.1;
+    },
+    took.2,
+  )
+    where
+      go : (b : Bool) → MatchBool b (Begins form known lines) (TextSays (outcome_in form) known (lines, Ended)) →
+          MatchBool b (BeginsWith (proof_says ids n) known lines) (SaysAll (proof_says ids n) known lines Ended)
+      go true t = begins_so lines t
+      go false t = says_so (lines, Ended) t
 
-      -- a line that is converted
-      pub so_far_more : (line : LratLine) → Gives remaining old new (Ok (Some line)) → (holding_of x.held).refuted ≡ false → (later : Option (List ℕ)) (y : Converter) →
-          ((d : Converted) → HasConverted width start now d x → Reaches width start later (next width d (view line)) y) → SoFar remaining known form new width c start later y
-      so_far_more line gives wanted later y more =
-          let reached = more so.after so.stands in
-          record {
-            lines = so.lines ++ (line_number new, view line) ∷ [];
-            after = reached.after;
-            given = more_given line gives;
-            ran = run_on width c so.after reached.after so.lines (line_number new) (view line) so.ran (still_open wanted) reached.ran;
-            stands = reached.stands;
-          }
+  -- the next one can't be read
+  pub unread : (x : Converter) → (d : Converted) × (run width c (said lines) ≡ Ok d) × HasConverted width start now d x → (holding_of x.held).refuted ≡ false →
+      (fault : LratTextFault) → FailsAfter form known lines fault → IsStopped (proof_says ids n) known width c start now (of_text fault)
+  unread x took wanted (reads.Read cause) f = record { lines = lines; after = took.0; text = begins_so lines f.0; ran = took.1; written = took.2.written.bytes }
+  unread x took wanted (reads.Line m kind) f = record {
+    lines = lines;
+    before = took.0;
+    text = says_so (lines, Faulty m kind) f.0;
+    ran = took.1;
+    is_open = done-is width start now took.0 x false took.2 wanted;
+    written = took.2.written.bytes;
+  }
+  unread x took wanted reads.OutOfMemory f = record {
+    lines = lines;
+    after = took.0;
+    text = begins_so lines f;
+    ran = took.1;
+    written = begun_to_end start now took.0 (begun_whole start now took.0.steps took.2.written.bytes);
+  }
 
-    module _ (says : List ℕ → Outcome) (same : ReadSo says known form) where
-      -- no more is asked for
-      pub so_far_done : (holding_of x.held).refuted ≡ true → ConvertsLines says known width c start now x (Ok tt)
-      so_far_done done = (
-        so.lines,
-        so.after,
-        record {
-          text = rw (done-is width start now so.after x true so.stands done) (begins remaining says known form same old so.lines so.given);
-          ran = so.ran;
-        },
-        so.stands,
-      )
+  module _ (m : ℕ) (line : Line) (b : Begins form known (lines ++ (m, line) ∷ [])) where
+    -- it was given up
+    begun_in : (before d : Converted) → run width c (said lines) ≡ Ok before → before.held.refuted ≡ false → (d ≡ before) ⊎ (next width before line ≡ Ok d) → HasBegun start now d.steps →
+        IsBegun (proof_says ids n) known width c start now
+    begun_in before d ran is_open (inl e) begun = record {
+      lines = lines;
+      after = before;
+      text = begins_so lines (begins_less form known lines m line b);
+      ran = ran;
+      written = begun_to_end start now before (rw e at begun);
+    }
+    begun_in before d ran is_open (inr e) begun = record {
+      lines = lines ++ (m, line) ∷ [];
+      after = d;
+      text = begins_so (lines ++ (m, line) ∷ []) b;
+      ran = ap (run width c) (said-more lines m line) ∙ run_on width c before d (said lines) line ran is_open e;
+      written = begun_to_end start now d begun;
+    }
 
-      module _ (wanted : (holding_of x.held).refuted ≡ false) (new : LratReader R) where
-        -- a line of which not all was written
-        so_far_begun : (line : LratLine) → Gives remaining old new (Ok (Some line)) → (later : Option (List ℕ)) (d : Converted) → (d ≡ so.after) ⊎ (next width so.after (view line) ≡ Ok d) →
-            HasBegun start later d.steps → IsBegun says known width c start later
-        so_far_begun line gives later d (inl e) begun = record {
-          lines = so.lines;
-          after = so.after;
-          text = begins remaining says known form same old so.lines so.given;
-          ran = so.ran;
-          written = begun_to_end start later so.after (rw e at begun);
-        }
-        so_far_begun line gives later d (inr e) begun = record {
-          lines = so.lines ++ (line_number new, view line) ∷ [];
-          after = d;
-          text = begins remaining says known form same new (so.lines ++ (line_number new, view line) ∷ []) (more_given new line gives);
-          ran = run_on width c so.after d so.lines (line_number new) (view line) so.ran (still_open wanted) e;
-          written = begun_to_end start later d begun;
-        }
+    -- it was not converted
+    pub stopped : (stop : Stop) → StopsAt width start now c (said lines) line stop → IsStopped (proof_says ids n) known width c start now (in_line stop m)
+    stopped (stops.Refused cause) s = record {
+      lines = lines;
+      line = line;
+      before = s.before;
+      text = begins_so (lines ++ (m, line) ∷ []) b;
+      ran = s.ran;
+      is_open = s.is_open;
+      refused = s.cause;
+      written = s.written tt;
+    }
+    stopped (stops.GivenUp why) s =
+        let in_line = s.begun tt in
+        given_up (proof_says ids n) known width c start now why (begun_in s.before in_line.upto s.ran s.is_open in_line.is in_line.begun)
 
-        given_up_in : (line : LratLine) → Gives remaining old new (Ok (Some line)) → (later : Option (List ℕ)) → StopsIn start later so.after (next width so.after (view line)) →
-            IsBegun says known width c start later
-        given_up_in line gives later s = so_far_begun line gives later s.upto s.is s.begun
+-- ---- where the sink has ended
 
-        -- a line that is rejected, or that was given up
-        pub so_far_refused : (line : LratLine) → Gives remaining old new (Ok (Some line)) → (stop : Stop) (later : Option (List ℕ)) → (IsRefusal stop → later ≡ now) →
-            ((d : Converted) → HasConverted width start now d x → IsCause stop (next width d (view line))) →
-            ((d : Converted) → HasConverted width start now d x → IsGivenUp stop → StopsIn start later d (next width d (view line))) →
-            IsStopped says known width c start later (in_line stop (line_number new))
-        so_far_refused line gives (stops.Refused cause) later kept refused stopped = record {
-          lines = so.lines;
-          line = view line;
-          before = so.after;
-          text = begins remaining says known form same new (so.lines ++ (line_number new, view line) ∷ []) (more_given new line gives);
-          ran = so.ran;
-          is_open = still_open wanted;
-          refused = refused so.after so.stands;
-          written = rw (kept tt) so.stands.written.bytes;
-        }
-        so_far_refused line gives (stops.GivenUp why) later kept refused stopped =
-            given_up says known width c start later why (given_up_in line gives later (stopped so.after so.stands tt))
+-- its references end as what it left behind them
+pub converts_as : {W : Type 0} (contents : W → Option (List ℕ)) (says : List ℕ → Outcome) (known : Known) (width : ℕ) (c : Converted) (start : Option (List ℕ)) (o n : W) (y x : Converter)
+    (r : Result (Unit {0}) ConvertFault) → o ≡ n → y ≡ x → ConvertsLines says known width c start (contents n) x r → ConvertsLines says known width c start (contents o) y r
+converts_as contents says known width c start o n y x r e f p =
+    subst (λ v. ConvertsLines says known width c start (contents v) y r) (sym e) (subst (λ z. ConvertsLines says known width c start (contents n) z r) (sym f) p)
 
-        -- the end of the proof
-        pub so_far_ended : Gives remaining old new (Ok None) → ConvertsLines says known width c start now x (Ok tt)
-        so_far_ended gives = (
-          so.lines,
-          so.after,
-          record {
-            text = rw (still_open wanted)
-                (says_as known (outcome_in form) says same so.lines Ended (all_said known (outcome_in form) so.lines Ended (given_end remaining known form old so.lines so.given new gives)));
-            ran = so.ran;
-          },
-          so.stands,
-        )
-
-        -- a line that can't be read, or a read that fails
-        pub so_far_unread : (fault : LratTextFault) → Gives remaining old new (Err fault) → IsStopped says known width c start now (of_text fault)
-        so_far_unread (reads.Line n kind) gives = record {
-          lines = so.lines;
-          before = so.after;
-          text = says_as known (outcome_in form) says same so.lines (Faulty n kind)
-              (all_said known (outcome_in form) so.lines (Faulty n kind) (given_fault remaining known form old so.lines so.given new n kind gives));
-          ran = so.ran;
-          is_open = still_open wanted;
-          written = so.stands.written.bytes;
-        }
-        so_far_unread (reads.Read cause) gives = record {
-          lines = so.lines;
-          after = so.after;
-          text = begins remaining says known form same old so.lines so.given;
-          ran = so.ran;
-          written = so.stands.written.bytes;
-        }
-        so_far_unread reads.OutOfMemory gives = record {
-          lines = so.lines;
-          after = so.after;
-          text = begins remaining says known form same old so.lines so.given;
-          ran = so.ran;
-          written = begun_to_end start now so.after (begun_whole start now so.after.steps so.stands.written.bytes);
-        }
-
--- ---- a proof that was opened, or not
-
--- what its bytes say is what they say in the form in which they are read
-pub read_so : (ids : Option Ids) (n : ℕ) (form : LratForm) (known : Known) → IfSome known (λ bytes. form ≡ form_of ids n bytes) → ReadSo (proof_says ids n) known form
-read_so ids n form None is = tt
-read_so ids n form (Some bytes) is = ap (λ (f : LratForm). outcome_in f bytes) (sym is)
+-- ---- before the lines, and after them
 
 nothing_said : (says : List ℕ → Outcome) (known : Known) → BeginsWith says known []
 nothing_said says None = (([], Ended), tt)
@@ -224,30 +200,10 @@ begins_led says known lines false p = begins_all says known lines Ended p
 
 module _ (says : List ℕ → Outcome) (known : Known) (width : ℕ) (c : Converted) (start now : Option (List ℕ)) where
   -- no line was taken
-  begun_none : HasBegun start now c.steps → IsBegun says known width c start now
-  begun_none begun = record { lines = []; after = c; text = nothing_said says known; ran = refl; written = begun_to_end start now c begun }
-
   pub given_up_first : (why : GivenUp) → HasBegun start now c.steps → IsStopped says known width c start now (giving_up why)
-  given_up_first why begun = given_up says known width c start now why (begun_none begun)
+  given_up_first why begun =
+      given_up says known width c start now why (record { lines = []; after = c; text = nothing_said says known; ran = refl; written = begun_to_end start now c begun })
 
   -- all lines were
   pub begun_end : (lines : List (ℕ × Line)) (d : Converted) → Leads says known width c lines d → HasBegun start now (whole d) → IsBegun says known width c start now
   begun_end lines d leads begun = record { lines = lines; after = d; text = begins_led says known lines d.held.refuted leads.text; ran = leads.ran; written = begun }
-
-module _ (says : List ℕ → Outcome) (known : Known) (width : ℕ) (c : Converted) (start now : Option (List ℕ)) (x : Converter) (h : HasConverted width start now c x) where
-  -- no line is asked for
-  pub none_wanted : (holding_of x.held).refuted ≡ true → ConvertsLines says known width c start now x (Ok tt)
-  none_wanted done = (
-    [],
-    c,
-    record {
-      text = rw (done-is width start now c x true h done) (nothing_said says known);
-      ran = refl;
-    },
-    h,
-  )
-
-  pub not_opened : (fault : LratTextFault) → IsNoLine fault → IsStopped says known width c start now (of_text fault)
-  not_opened (reads.Line n kind) none = absurd none
-  not_opened (reads.Read cause) none = record { lines = []; after = c; text = nothing_said says known; ran = refl; written = h.written.bytes }
-  not_opened reads.OutOfMemory none = begun_none says known width c start now (begun_whole start now c.steps h.written.bytes)

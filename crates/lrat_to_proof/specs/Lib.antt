@@ -4,4 +4,5 @@ pub mod Converting
 pub mod Faults
 pub mod Conversions
 pub mod Standing
+pub mod Taken
 pub mod Runs

@@ -17,8 +17,8 @@ use Rattle.lrat_text.specs.Texts.{Outcome}
 use Rattle.lrat_text.specs.declared.fault.LineKind.{LineKind}
 use Rattle.lrat_binary.specs.Proofs.{BeginsWith, SaysAll, outcome_in}
 use Rattle.lrat_binary.specs.Telling.{form_of}
+use Rattle.lrat_binary.specs.TakenLines.{said}
 use Rattle.lrat_binary.specs.declared.ids.Ids.{Ids}
-use Rattle.lrat_checker.specs.TextAnswers.{said}
 use Rattle.proof_bytes.specs.declared.format.Format.TheVariants as formats
 use Rattle.proof_bytes.specs.Texts.{AreSteps}
 use Rattle.proof_bytes.specs.Version2.{text_2}

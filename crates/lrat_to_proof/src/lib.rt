@@ -9,6 +9,7 @@ mod fault;
 mod hints;
 mod holding;
 mod run;
+mod sink;
 mod steps;
 mod width;
 

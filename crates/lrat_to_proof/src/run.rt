@@ -1,7 +1,5 @@
 //! Conversions of a whole proof.
-ghost use Rattle.std.specs.Prelude.{◌≡◌, ℕ, List, Option, IfSome};
-ghost use Rattle.lrat_binary.specs.Proofs.{IsFresh, form_now, outcome_in};
-ghost use Rattle.lrat_text.specs.Texts.{Outcome};
+ghost use Rattle.std.specs.Prelude.{ℕ, List, Option};
 ghost use Rattle.lrat_to_proof.specs.Converting.{Converted};
 ghost use Rattle.lrat_to_proof.specs.Runs.{ConvertsLines, IsProofRun, IsRun, RunTellsLie, proof_says};
 ghost use Rattle.lrat_to_proof.specs.Standing.{HasConverted};
@@ -10,8 +8,9 @@ ghost use Rattle.lrat_to_proof.specs.Widths.{bits_of};
 use crate::conversion::Conversion;
 use crate::converter::Converter;
 use crate::fault::ConvertFault;
+use crate::sink::LineConverter;
 use crate::width::HashWidth;
-use lrat_binary::{Ids, LratReader, open_proof};
+use lrat_binary::{Ids, UntakenLine, take_proof};
 use sat_formula::{CnfFormula, LyingHeader, read_formula};
 use std::alloc::Global;
 use std::io::{Read, Write};
@@ -90,38 +89,10 @@ fn convert_lines<P: Read + Drop, W: Write>(
         → ConvertsLines (proof_says ids clauses) (P.remaining proof) width c start
         (W.contents out.new) converter.new result }
 {
-    if converter.is_done() {
-        return Ok(());
+    let mut sink = LineConverter { converter, out };
+    match take_proof(alloc, proof, ids, clauses, &mut sink) {
+        Ok(()) => Ok(()),
+        Err(UntakenLine::Proof(fault)) => Err(ConvertFault::unread(fault)),
+        Err(UntakenLine::Sink { line, fault }) => Err(fault.in_line(line)),
     }
-    match open_proof(alloc, proof, ids, clauses) {
-        Ok(mut reader) => take_lines(converter, &mut reader, out),
-        Err(fault) => Err(ConvertFault::unread(fault)),
-    }
-}
-
-/// Converts the lines of a reader, up to one after which no further line is needed.
-fn take_lines<R: Read, W: Write>(
-    converter: &mut Converter,
-    reader: &mut LratReader<R>,
-    out: &mut W,
-) -> Result<(), ConvertFault>
-    ensures { (says : List ℕ → Outcome) (known : Option (List ℕ)) (width : ℕ)
-        (start : Option (List ℕ)) (c : Converted)
-        → IsFresh R.remaining known (form_now reader.old) reader.old
-        → IfSome known (λ bytes. says bytes ≡ outcome_in (form_now reader.old) bytes)
-        → HasConverted width start (W.contents out.old) c converter.old
-        → ConvertsLines says known width c start (W.contents out.new) converter.new result }
-{
-    'lines: while !converter.is_done() {
-        match reader.next_line() {
-            Ok(Some(line)) => {
-                if let Err(stop) = converter.take_line(line, out) {
-                    return Err(stop.in_line(reader.line()));
-                }
-            }
-            Ok(None) => return Ok(()),
-            Err(fault) => return Err(ConvertFault::unread(fault)),
-        }
-    }
-    Ok(())
 }

@@ -1,5 +1,5 @@
 -- Verdicts, a clause after the other.
-use Rattle.std.proofs.Common.{◌≡◌, ℕ, ◌+◌, Bool, List, [], ◌∷◌, ◌++◌, length, Option, Some, None, sym, ap, ◌∙◌, append_assoc, length-append, subst}
+use Rattle.std.proofs.Common.{◌≡◌, ℕ, Bool, List, [], ◌∷◌, ◌++◌, length, Option, Some, None, ap, ◌∙◌, append_assoc, subst}
 use mathlib.Core.Path.{fun_ext}
 use Rattle.answer_text.specs.declared.literals.Literals.{Literals}
 use Rattle.answer_text.specs.Literals.{has_lit}
@@ -21,9 +21,6 @@ still_first s cs c n f =
 
 pub same_line : (ls : List ℕ) (l n line : ℕ) → IsLineOf ls n line → IsLineOf (ls ++ l ∷ []) n line
 same_line ls l n line f = search (ap (λ (k : List ℕ). k ++ l ∷ []) f.split ∙ append_assoc f.before (line ∷ f.rest) (l ∷ []), f.place)
-
-pub length_more : {A : Type 0} (xs : List A) (x : A) (n : ℕ) → n ≡ length xs → n + 1 ≡ length (xs ++ x ∷ [])
-length_more xs x n e = ap (λ (k : ℕ). k + 1) e ∙ sym (length-append xs (x ∷ []))
 
 pub shown : (cnf answer : Option (List ℕ)) (table : Literals) (verdict : Verdict) (cut is : Option CutFormula) → cut ≡ is → reading.ListsThe answer table → IsJudged cnf (has_lit table) verdict cut
     → IsShown cnf answer verdict is

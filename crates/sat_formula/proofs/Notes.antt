@@ -10,7 +10,7 @@ use Rattle.sat_formula.specs.Taking.{Finishes, by_byte, by_input}
 use Rattle.sat_formula.specs.Outcome.{Ending, Ended, Outcome}
 use Rattle.sat_formula.specs.Text.{State, past_of, Next, Clause, Stopped, Waits, next_at, at_end, past_at_end, start}
 use Rattle.sat_formula.specs.Notes.{Notes, with_line, last_notes, notes_at, notes_of}
-use Rattle.sat_formula.specs.Noting.{notes_left, IsNotes, HasNoted}
+use Rattle.sat_formula.specs.Noting.{notes_left, BeginsOn, IsNotes, HasNoted}
 use Rattle.sat_formula.specs.Readings.{Known}
 use Rattle.sat_formula.proofs.Readings.{leads_all, leads_by, said_on, ends_all, ends_as, ends_by}
 use Rattle.sat_formula.proofs.Whole.{AfterEnd, Reads, says_next}
@@ -88,6 +88,14 @@ module _ {R : Type 0} (remaining : R → Known) (old mid new : DimacsReader R) (
   -- a call that found the end
   pub IsNotes-ended : AfterEnd mid new clause (Ok false) → Reads remaining mid new clause (Ok false) → IsNotes (notes_left remaining old) (lines, past_of (standing new))
   IsNotes-ended after read = rw append-nil at (noted_before.back ([], past_of (standing new)) (stops (has_ended mid) refl after read))
+
+some_notes : (known : Option Notes) → (n : Notes) × IsNotes known n
+some_notes None = (([], past_of start), tt)
+some_notes (Some n) = (n, refl)
+
+-- the lines of the clauses given so far
+pub BeginsOn-given : {R : Type 0} (remaining : R → Known) (old mid : DimacsReader R) (lines : List ℕ) → HasNoted remaining old lines mid → BeginsOn (notes_left remaining old) lines
+BeginsOn-given remaining old mid lines noted = let some = some_notes (notes_left remaining mid) in (some.0, noted.back some.0 some.1)
 
 -- ---- the whole text
 

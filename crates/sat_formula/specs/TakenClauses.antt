@@ -2,14 +2,17 @@
 --     Takes r taken refused      a clause was taken, or it was not, for this fault
 --     TakesWhole known taken summary      all clauses of a text were taken
 --     TakesSome known taken refused why      the first of them were, and then the text or a clause had this fault
+--     cut_by why, IsCut fault some      the fault of it, where a sink has none but out of memory;  the first of them were, and then this fault came
 use Rattle.std.specs.Prelude.{◌≡◌, ℕ, List, length, Option, Result, Ok, Err}
 use Rattle.std.specs.Option.{option_map}
 use Rattle.sat_formula.specs.Lines.{outcome_of}
 use Rattle.sat_formula.specs.Notes.{Notes, notes_of}
-use Rattle.sat_formula.specs.Noting.{IsNotes}
+use Rattle.sat_formula.specs.Noting.{BeginsOn, IsNotes}
 use Rattle.sat_formula.specs.Outcome.{Ended}
 use Rattle.sat_formula.specs.Whole.{BeginsWith, FailsAfter, IsOutcome}
 use Rattle.sat_formula.specs.Lies.{counts_of}
+use Rattle.sat_formula.specs.declared.fault.DimacsFault.{DimacsFault}
+use Rattle.sat_formula.specs.declared.fault.DimacsFault.TheVariants.{OutOfMemory}
 use Rattle.sat_formula.specs.declared.sink.Summary.{Summary}
 use Rattle.sat_formula.specs.declared.sink.UntakenClause.{UntakenClause}
 use Rattle.sat_formula.specs.declared.sink.UntakenClause.TheVariants.{Text, Sink}
@@ -31,10 +34,19 @@ pub record TakesWhole (known : Option (List ℕ)) (taken : List (List ℕ) → L
   pub counts : summary.counts ≡ counts_of clauses
   pub number : summary.counts.clauses ≡ length clauses
 
--- these clauses were taken, and the text has this fault after them; or all but the last were, and the sink has this fault at it
+-- these clauses were taken, which end on these lines, and the text has this fault after them; or all but the last were, and the sink has this fault at it
 abbrev pub TakesSome : {E : Type 0} → Option (List ℕ) → (List (List ℕ) → List ℕ → Type 0) →
     (List (List ℕ) → E → Type 0) → UntakenClause E → Type 0
 TakesSome known taken refused (Text fault) = (clauses : List (List ℕ)) × (lines : List ℕ)
-    × FailsAfter (option_map outcome_of known) clauses fault × taken clauses lines
+    × FailsAfter (option_map outcome_of known) clauses fault × taken clauses lines × BeginsOn (option_map notes_of known) lines
 TakesSome known taken refused (Sink fault) = (clauses : List (List ℕ))
     × BeginsWith (option_map outcome_of known) clauses × refused clauses fault
+
+-- the fault of the text, or out of memory where the sink refused a clause
+abbrev pub cut_by : {E : Type 0} → UntakenClause E → DimacsFault
+cut_by (Text fault) = fault
+cut_by (Sink e) = OutOfMemory
+
+-- the first clauses were taken, up to this fault
+abbrev pub IsCut : {E : Type 0} → DimacsFault → (UntakenClause E → Type 0) → Type 0
+IsCut {E} fault some = (why : UntakenClause E) × some why × fault ≡ cut_by why

@@ -4,7 +4,7 @@ ghost use Rattle.std.specs.Option.{option_map};
 ghost use Rattle.sat_formula.specs.Lines.{outcome_of};
 ghost use Rattle.sat_formula.specs.Whole.{FailsAfter};
 ghost use Rattle.sat_formula.specs.Lies.{IsLie};
-ghost use Rattle.sat_formula.specs.TakenClauses.{TakesSome, TakesWhole};
+ghost use Rattle.sat_formula.specs.TakenClauses.{IsCut, TakesSome, TakesWhole};
 
 use crate::counts::Counts;
 use crate::dimacs::DimacsReader;
@@ -13,7 +13,8 @@ use crate::sink::{ClauseSink, Summary, UntakenClause};
 use std::alloc::{AllocError, Global};
 use std::io::Read;
 
-/// Reads a whole formula as DIMACS text, and gives each clause to the sink as it ends.
+/// Reads a whole formula as DIMACS text, and gives each clause to the sink as it ends. Returns the
+/// header of the text and the counts of its clauses.
 ///
 /// # Errors
 ///
@@ -55,10 +56,12 @@ pub fn read_clauses<F: Read + Drop, S: ClauseSink>(
 }
 
 /// Reads a whole formula as DIMACS text into a sink that takes each clause for which it has memory.
+/// Returns what `read_clauses` does.
 ///
 /// # Errors
 ///
-/// The first fault of the text, a failed read or out of memory.
+/// The first fault of the text, a failed read or out of memory, of the sink as well. The clauses
+/// before it were taken.
 pub fn read_into<F: Read + Drop, S: ClauseSink<Fault = AllocError>>(
     alloc: Global,
     cnf: F,
@@ -70,6 +73,9 @@ pub fn read_into<F: Read + Drop, S: ClauseSink<Fault = AllocError>>(
     ensures lie { IfOk result (λ summary. IsLie (F.remaining cnf) summary.lie) }
     ensures fault { IfErr result (λ fault. (clauses : List (List ℕ))
         × FailsAfter (option_map outcome_of (F.remaining cnf)) clauses fault) }
+    ensures some { IfErr result (λ fault. IsCut fault (TakesSome (F.remaining cnf)
+        (λ clauses lines. S.has_taken sink.old clauses lines sink.new)
+        (λ clauses e. S.has_refused sink.old clauses e sink.new))) }
 {
     match read_clauses(alloc, cnf, sink) {
         Ok(summary) => Ok(summary),

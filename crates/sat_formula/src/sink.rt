@@ -38,6 +38,7 @@ pub trait ClauseSink {
 /// What is known of a text that was read to its end, beside its clauses.
 #[derive(Clone, Copy)]
 pub struct Summary {
+    /// The counts of the header, if the text has one.
     pub header: Option<Counts>,
     /// The variables and the clauses that were taken.
     pub counts: Counts,

@@ -1,16 +1,16 @@
-use Rattle.lrat_binary.specs.Proofs.{form_now}
-use Rattle.hint_check.proofs.LineLemmas.{not_opened, opened_accepted, opened_refused}
+use Rattle.std.proofs.Common.{refl}
+use Rattle.hint_check.proofs.LineLemmas.{proof_accepted, proof_refused}
 use Rattle.hint_check.proofs.checking.check_proof.Goals as goal
+
+pub take_proof-requires : goal.take_proof-requires
+take_proof-requires g c = record { fresh = record { leads = λ h e. (h, refl, e); small = λ s. s } }
 
 pub returns-in-Ok-clause-accepted : goal.returns-in-Ok-clause-accepted
 returns-in-Ok-clause-accepted g c = λ h held.
-    let known = g.H.Read.remaining c.args.proof in
-    opened_accepted c.args.ids c.args.clauses known (form_now c.in-Ok.reader) h c.in-Ok.ensures.form c.check_lines.result (c.check_lines.ensures.accepted h known held c.in-Ok.ensures.fresh)
-
-pub returns-in-Ok-clause-refused : goal.returns-in-Ok-clause-refused
-returns-in-Ok-clause-refused g c = λ h held.
-    let known = g.H.Read.remaining c.args.proof in
-    opened_refused c.args.ids c.args.clauses known (form_now c.in-Ok.reader) h c.in-Ok.ensures.form c.check_lines.result (c.check_lines.ensures.refused h known held c.in-Ok.ensures.fresh)
+    let t = c.in-Ok.ensures in
+    (t.0, t.1, proof_accepted t.0 (g.H.Read.remaining c.args.proof) h c.args.checker c.take_proof.new.sink held t.2 c.added_empty.result c.added_empty.ensures)
 
 pub returns-clause-refused : goal.returns-clause-refused
-returns-clause-refused g c = λ h held. rw c.from.ensures (not_opened c.args.ids c.args.clauses (g.H.Read.remaining c.args.proof) h c.in-Err.fault c.in-Err.ensures.no_line)
+returns-clause-refused g c = λ h held.
+    let t = c.in-Err.ensures in
+    (t.0, t.1, rw c.from.ensures (proof_refused t.0 (g.H.Read.remaining c.args.proof) h c.args.checker c.take_proof.new.sink held c.in-Err.untaken t.2))

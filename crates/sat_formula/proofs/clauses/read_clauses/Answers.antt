@@ -1,7 +1,7 @@
 use Rattle.std.proofs.Common.{◌≡◌, ℕ, ◌+◌, [], ◌∷◌, ◌++◌, length, refl, sym, ap, ◌∙◌, length-append}
 use Rattle.sat_formula.specs.DimacsReader.{line_given, standing}
 use Rattle.sat_formula.specs.Text.{past_of}
-use Rattle.sat_formula.proofs.Notes.{IsNotes-ended, notes_left-new}
+use Rattle.sat_formula.proofs.Notes.{BeginsOn-given, IsNotes-ended, notes_left-new}
 use Rattle.sat_formula.proofs.Whole.{BeginsWith-given, FailsAfter-given, IsOutcome-ended, outcome_left-new}
 use Rattle.sat_formula.proofs.Telling.{HasTold-more, HasTold-nil, IsLie-counted, counted-ended, counts-few}
 use Rattle.sat_formula.proofs.clauses.read_clauses.Goals as goal
@@ -46,6 +46,8 @@ returns-in-Err-clause-some g c =
       rw (outcome_left-new g.F.Read.remaining r.result _ r.ensures.unread r.ensures.standing r.ensures.ended)
           at (FailsAfter-given g.F.Read.remaining r.result c.clauses.reader c.next_clause.new.self _ _ inv.2.given _ c.in-Err.ensures.after_end c.in-Err.ensures.next),
       inv.3,
+      rw (notes_left-new g.F.Read.remaining r.result _ r.ensures.unread r.ensures.standing r.ensures.ended)
+          at (BeginsOn-given g.F.Read.remaining r.result c.clauses.reader inv.1 inv.2.noted),
     )
 
 pub returns-clause-whole : goal.returns-clause-whole
