@@ -1,14 +1,10 @@
 //! Bytes of a text, and what numbers say.
 ghost use Rattle.std.specs.Prelude.{◌≡◌};
-ghost use Rattle.sat_formula.specs.Bytes.{is_digit};
 ghost use Rattle.drat_text.specs.Bytes.{begins_comment, is_space, is_text_byte};
 ghost use Rattle.drat_text.specs.Numbers.{lit_said};
 
 use crate::fault::DratKind;
-use sat_formula::{Lit, Var};
-
-/// The largest number of a variable.
-pub const MAX_VARIABLE: u64 = Var::MAX_COUNT as u64;
+use sat_formula::Lit;
 
 /// Returns whether the byte is between words: a blank or an LF.
 #[inline(always)]
@@ -16,14 +12,6 @@ pub fn is_space(byte: u8) -> bool
     ensures { result ≡ is_space byte }
 {
     byte == b' ' || byte == b'\n' || byte == b'\r' || byte == b'\t'
-}
-
-/// Returns whether the byte is `0` to `9`.
-#[inline(always)]
-pub fn is_digit(byte: u8) -> bool
-    ensures { result ≡ is_digit byte }
-{
-    b'0' <= byte && byte <= b'9'
 }
 
 /// Returns whether the byte begins a comment, if it is between steps.
@@ -50,15 +38,10 @@ pub fn is_text_byte(byte: u8) -> bool
 pub fn lit_said(negative: bool, value: u64) -> Result<Option<Lit>, DratKind>
     ensures { result ≡ lit_said negative value }
 {
-    if value == 0 {
-        return if negative {
-            Err(DratKind::Malformed)
-        } else {
-            Ok(None)
-        };
+    match Lit::of_digits(negative, value) {
+        Some(lit) => Ok(Some(lit)),
+        None if value > 0 => Err(DratKind::NumberTooLarge),
+        None if negative => Err(DratKind::Malformed),
+        None => Ok(None),
     }
-    if value > MAX_VARIABLE {
-        return Err(DratKind::NumberTooLarge);
-    }
-    Ok(Lit::from_code((value as usize - 1) * 2 + negative as usize))
 }

@@ -12,8 +12,9 @@ ghost use Rattle.drat_text.specs.Taking.{unread_bytes, room_in, source_of};
 use crate::bytes::{Bytes, Format};
 use crate::fault::{DratKind, Stop};
 use crate::grammar::Grammar;
-use crate::number::{is_digit, is_space};
+use crate::number::is_space;
 use crate::step::StepEnd;
+use sat_formula::bytes::is_digit;
 use std::io::Read;
 
 /// Values above it are unspecified, and only that is kept of them.
