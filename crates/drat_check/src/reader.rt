@@ -2,8 +2,7 @@
 use crate::fault::ProofFault;
 use drat_elaborate::Elaborator;
 use drat_text::bytes::Bytes;
-use drat_text::fault::DratFault;
-use drat_text::{DratReader, DratStep, FratReader, is_frat};
+use drat_text::{DratFault, DratReader, DratStep, FratReader, is_frat};
 use lrat_text::LineReader;
 use std::alloc::Global;
 use std::io::Read;

@@ -6,8 +6,8 @@ use Rattle.std.specs.Io.KnownBytes.{Consumes}
 use Rattle.sat_formula.specs.declared.source.Source.{Source}
 use Rattle.drat_text.specs.declared.bytes.Format.TheVariants.{Binary}
 use Rattle.drat_text.specs.declared.fault.DratKind.{DratKind}
-use Rattle.drat_text.specs.declared.fault.Stop.{Stop}
-use Rattle.drat_text.specs.declared.fault.Stop.TheVariants as stops
+use Rattle.sat_formula.specs.declared.stop.Stop.{Stop}
+use Rattle.sat_formula.specs.declared.stop.Stop.TheVariants as stops
 use Rattle.drat_text.specs.Codes.{Code, Partial, TooLong, Whole, code_after, code_at}
 use Rattle.drat_text.specs.Places.{Rules, IsLastWeight, fifth_last, ninth_last, Within, InNumber, Groups, code_does}
 use Rattle.drat_text.specs.Proofs.{outcome_at}
@@ -101,7 +101,7 @@ module _ {a b c : Known} (last v w x : ℕ) (on : Leads a b (code_at last 0 1) (
   code_more le n = by_code (Partial (v + (x % 128) * w) (w * 128)) (code_partial last v w x le n)
 
 -- no byte
-pub code_cut : {R : Type 0} {a b : Known} (c : Known) (last v w : ℕ) (source : Source R) (stop : Stop) → Leads a b (code_at last 0 1) (code_at last v w) →
+pub code_cut : {R : Type 0} {a b : Known} (c : Known) (last v w : ℕ) (source : Source R) (stop : Stop DratKind) → Leads a b (code_at last 0 1) (code_at last v w) →
     TakesWithin b c source (Err stop) → TakesCode last a c source (Err stop)
 unfolding code_at
 code_cut c last v w source stops.End on t = absurd t
@@ -147,7 +147,7 @@ module _ {S T : Type 0} (r : Rules S T) (slot : S) where
   fails_read (cut_off v w p) = by_end (ends_by does begun_read p)
 
   -- a number does what its value does
-  pub code_read : {R : Type 0} (a b : Known) (last : ℕ) (source : Source R) (n : Result ℕ Stop) → last ≡ r.last_weight → TakesCode last a b source n →
+  pub code_read : {R : Type 0} (a b : Known) (last : ℕ) (source : Source R) (n : Result ℕ (Stop DratKind)) → last ≡ r.last_weight → TakesCode last a b source n →
       ReadsCode r slot a b (outcome_at r Binary (Within slot)) source n
   code_read a b last source (Ok n) is p = leads_by does begun_read (rw is at p) (λ m. refl)
   code_read a b last source (Err stops.Read) is p =

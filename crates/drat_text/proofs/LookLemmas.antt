@@ -9,8 +9,9 @@ use Rattle.sat_formula.specs.declared.source.Source.{Source}
 use Rattle.drat_text.specs.declared.bytes.Bytes.{Bytes}
 use Rattle.drat_text.specs.declared.bytes.Format.{Format}
 use Rattle.drat_text.specs.declared.bytes.Format.TheVariants.{Text, Binary}
-use Rattle.drat_text.specs.declared.fault.Stop.{Stop}
-use Rattle.drat_text.specs.declared.fault.Stop.TheVariants as stops
+use Rattle.drat_text.specs.declared.fault.DratKind.{DratKind}
+use Rattle.sat_formula.specs.declared.stop.Stop.{Stop}
+use Rattle.sat_formula.specs.declared.stop.Stop.TheVariants as stops
 use Rattle.drat_text.specs.Bytes.{is_text_byte, by_text_bytes}
 use Rattle.drat_text.specs.Places.{Rules}
 use Rattle.drat_text.specs.Proofs.{format_of}
@@ -88,7 +89,7 @@ module _ {S T : Type 0} (r : Rules S T) where
   later_told (Some (b ∷ bs)) x format at e t = t ∙ by_first b x bs None at e
 
   -- the bytes after the first are asked too
-  pub looked_on : {R : Type 0} (a b c : Known) (x : ℕ) (source : Source R) (f : Result Format Stop) → Keeps a b → IfSome a (λ bytes. slice_get bytes 0 ≡ Some x) →
+  pub looked_on : {R : Type 0} (a b c : Known) (x : ℕ) (source : Source R) (f : Result Format (Stop DratKind)) → Keeps a b → IfSome a (λ bytes. slice_get bytes 0 ≡ Some x) →
       None ≡ r.first_tells x → Looks by_first_bytes b c source f → Looks (format_of r) a c source f
   looked_on a b c x source (Ok format) k at e w =
       (Keeps-trans a b c k w.0, later_told a x format at e (known_on a b (λ (bytes : List ℕ). format ≡ by_first_bytes bytes) k w.1))

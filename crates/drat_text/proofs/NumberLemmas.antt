@@ -6,8 +6,9 @@ use Rattle.drat_text.specs.Bytes.{is_space}
 use Rattle.drat_text.specs.declared.bytes.Format.{Format}
 use Rattle.drat_text.specs.declared.bytes.Format.TheVariants.{Text, Binary}
 use Rattle.drat_text.specs.declared.fault.DratKind.TheVariants.{Malformed, Unfinished}
-use Rattle.drat_text.specs.declared.fault.Stop.{Stop}
-use Rattle.drat_text.specs.declared.fault.Stop.TheVariants as stops
+use Rattle.drat_text.specs.declared.fault.DratKind.{DratKind}
+use Rattle.sat_formula.specs.declared.stop.Stop.{Stop}
+use Rattle.sat_formula.specs.declared.stop.Stop.TheVariants as stops
 use Rattle.drat_text.specs.declared.step.StepEnd.{StepEnd}
 use Rattle.drat_text.specs.declared.text.TextNumber.{TextNumber}
 use Rattle.drat_text.specs.Places.{Rules, Outside, Within, InNumber, Sign, After, Goes, Gives, Stops, after, first_digit, last_said}
@@ -47,12 +48,12 @@ module _ {S T : Type 0} (r : Rules S T) where
   says_on c d false l w = leads_on l w
   says_on c d true l w = ends_on l w
 
-  pub number_on : {R : Type 0} {a b : Known} (c : Known) {f g : List ℕ → Outcome T} (source : Source R) (slot : S) (n : Result TextNumber Stop) →
+  pub number_on : {R : Type 0} {a b : Known} (c : Known) {f g : List ℕ → Outcome T} (source : Source R) (slot : S) (n : Result TextNumber (Stop DratKind)) →
       Leads a b f g → ReadsNumber r slot b c g source n → ReadsNumber r slot a c f source n
   number_on c source slot (Ok n) l w = says_on c (r.said slot n.negative n.value) n.last l w
   number_on c source slot (Err stop) l w = stopped_on r Text c source stop l w
 
-  pub step_on : {R F : Type 0} {a b : Known} (c : Known) {f g : List ℕ → Outcome T} (format : Format) (step : F → T) (source : Source R) (e : Result (StepEnd F) Stop) →
+  pub step_on : {R F : Type 0} {a b : Known} (c : Known) {f g : List ℕ → Outcome T} (format : Format) (step : F → T) (source : Source R) (e : Result (StepEnd F) (Stop DratKind)) →
       Leads a b f g → ReadsStep r format step b c g source e → ReadsStep r format step a c f source e
   step_on c format step source (Ok e) l w = given_on r format c (step e.found) e.last l w
   step_on c format step source (Err stop) l w = stopped_on r format c source stop l w
@@ -74,7 +75,7 @@ module _ {S T F : Type 0} (r : Rules S T) (step : F → T) (slot : S) (n : After
   ended a b f true found s t = ends_as s (ap last_said t)
 
   -- a fault
-  pub faulty : {R : Type 0} (a b : Known) (f : List ℕ → Outcome T) (last : Bool) (source : Source R) (stop : Stop) → Says r n last a b f → TakesNumber step slot n (Err stop) →
+  pub faulty : {R : Type 0} (a b : Known) (f : List ℕ → Outcome T) (last : Bool) (source : Source R) (stop : Stop DratKind) → Says r n last a b f → TakesNumber step slot n (Err stop) →
       Stopped r Text a b f source stop
   faulty a b f false source (stops.Wrong kind) s t = by_byte (on_as r Text {e = Stops kind} s t)
   faulty a b f true source (stops.Wrong kind) s t = by_end (ends_as s (ap last_said t))
@@ -83,7 +84,7 @@ module _ {S T F : Type 0} (r : Rules S T) (step : F → T) (slot : S) (n : After
 
   -- ---- a binary number that is taken
 
-  pub code_faulty : {R : Type 0} {a b : Known} {f : List ℕ → Outcome T} (source : Source R) (stop : Stop) → Leads a b f (goes_on r Binary n) → TakesNumber step slot n (Err stop) →
+  pub code_faulty : {R : Type 0} {a b : Known} {f : List ℕ → Outcome T} (source : Source R) (stop : Stop DratKind) → Leads a b f (goes_on r Binary n) → TakesNumber step slot n (Err stop) →
       Stopped r Binary a b f source stop
   code_faulty source (stops.Wrong kind) s t = by_byte (on_as r Binary {e = Stops kind} s t)
   code_faulty source stops.OutOfMemory s t = tt

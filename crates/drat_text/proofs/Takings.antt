@@ -11,9 +11,9 @@ use Rattle.sat_formula.specs.Source.{IsStopped, TakesNone}
 use Rattle.drat_text.specs.declared.bytes.Format.{Format}
 use Rattle.drat_text.specs.declared.fault.DratKind.{DratKind}
 use Rattle.drat_text.specs.declared.fault.DratKind.TheVariants.{Unfinished}
-use Rattle.drat_text.specs.declared.fault.Stop.{Stop}
-use Rattle.drat_text.specs.declared.fault.Stop.TheVariants as stops
-use Rattle.drat_text.specs.Stops.{stop_of}
+use Rattle.sat_formula.specs.declared.stop.Stop.{Stop}
+use Rattle.sat_formula.specs.declared.stop.Stop.TheVariants as stops
+use Rattle.sat_formula.specs.Stop.{stop_of}
 use Rattle.drat_text.specs.Places.{Rules, Place, After, Goes, Stops, after, at_end}
 use Rattle.drat_text.specs.Proofs.{outcome_at}
 use Rattle.drat_text.specs.Reading.{goes_on, GivesStep}
@@ -71,7 +71,7 @@ ahead_leads ahead front count e p taken =
 
 -- ---- a stop
 
-pub stops_on : {R P O : Type 0} (at : P → List ℕ → O) (ended : O) (faulty : DratKind → O) {a b : Known} (c : Known) {f g : List ℕ → O} (source : Source R) (stop : Stop) →
+pub stops_on : {R P O : Type 0} (at : P → List ℕ → O) (ended : O) (faulty : DratKind → O) {a b : Known} (c : Known) {f g : List ℕ → O} (source : Source R) (stop : Stop DratKind) →
     Leads a b f g → StopsBy at ended faulty b c g source stop → StopsBy at ended faulty a c f source stop
 stops_on at ended faulty c source stops.End p q = ends_on p q
 stops_on at ended faulty c source stops.Read p q = (record { place = q.0.place; leads = leads_on p q.0.leads }, q.1)
@@ -81,7 +81,7 @@ stops_on at ended faulty c source stops.OutOfMemory p q = tt
 -- ---- by the rules of a proof
 
 module _ {S T : Type 0} (r : Rules S T) (format : Format) where
-  pub stopped_on : {R : Type 0} {a b : Known} (c : Known) {f g : List ℕ → Outcome T} (source : Source R) (stop : Stop) →
+  pub stopped_on : {R : Type 0} {a b : Known} (c : Known) {f g : List ℕ → Outcome T} (source : Source R) (stop : Stop DratKind) →
       Leads a b f g → Stopped r format b c g source stop → Stopped r format a c f source stop
   stopped_on c source stop p q = stops_on (outcome_at r format) ([], Ended) (λ kind. ([], Faulty kind)) c source stop p q
 
@@ -123,7 +123,7 @@ module _ {S T : Type 0} (r : Rules S T) (format : Format) where
   end_at p l k e = ends_as (end_here l k.0 k.1) e
 
   -- the input does not end here, or may end here
-  pub no_byte : {R : Type 0} {a b : Known} (c : Known) {f : List ℕ → Outcome T} (p : Place S) (source : Source R) (stop : Stop) → (stop ≡ stops.End → at_end r p ≡ ([], Ended)) →
+  pub no_byte : {R : Type 0} {a b : Known} (c : Known) {f : List ℕ → Outcome T} (p : Place S) (source : Source R) (stop : Stop DratKind) → (stop ≡ stops.End → at_end r p ≡ ([], Ended)) →
       Leads a b f (outcome_at r format p) → Takes b c source (Err stop) → Stopped r format a c f source stop
   no_byte c p source stops.End e l t = end_at p l t (e refl)
   no_byte c p source stops.Read e l t = (record { place = p; leads = kept_on l t.0 }, t.1)
@@ -131,7 +131,7 @@ module _ {S T : Type 0} (r : Rules S T) (format : Format) where
   no_byte c p source stops.OutOfMemory e l t = tt
 
   -- the input ends within a step
-  pub cut_short : {R : Type 0} {a b : Known} (c : Known) {f : List ℕ → Outcome T} (p : Place S) (source : Source R) (stop : Stop) → at_end r p ≡ ([], Faulty Unfinished) →
+  pub cut_short : {R : Type 0} {a b : Known} (c : Known) {f : List ℕ → Outcome T} (p : Place S) (source : Source R) (stop : Stop DratKind) → at_end r p ≡ ([], Faulty Unfinished) →
       Leads a b f (outcome_at r format p) → TakesWithin b c source (Err stop) → Stopped r format a c f source stop
   cut_short c p source stops.End e l t = absurd t
   cut_short c p source stops.Read e l t = (record { place = p; leads = kept_on l t.0 }, t.1)

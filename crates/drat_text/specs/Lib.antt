@@ -1,4 +1,3 @@
-pub mod Stops
 pub mod Bytes
 pub mod Numbers
 pub mod Steps

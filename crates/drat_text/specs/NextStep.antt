@@ -11,8 +11,9 @@ use Rattle.drat_text.specs.declared.bytes.Format.{Format}
 use Rattle.drat_text.specs.declared.bytes.Format.TheVariants as formats
 use Rattle.drat_text.specs.declared.fault.DratFault.{DratFault}
 use Rattle.drat_text.specs.declared.fault.DratFault.TheVariants as faults
-use Rattle.drat_text.specs.declared.fault.Stop.{Stop}
-use Rattle.drat_text.specs.declared.fault.Stop.TheVariants as stops
+use Rattle.drat_text.specs.declared.fault.DratKind.{DratKind}
+use Rattle.sat_formula.specs.declared.stop.Stop.{Stop}
+use Rattle.sat_formula.specs.declared.stop.Stop.TheVariants as stops
 use Rattle.drat_text.specs.declared.reader.StepReader.{StepReader}
 use Rattle.drat_text.specs.declared.step.StepEnd.{StepEnd}
 use Rattle.drat_text.specs.Places.{Rules}
@@ -62,7 +63,7 @@ module _ {G R : Type 0} where
 
 -- no byte was taken, where memory was found
 abbrev pub Looked : {R X : Type 0} → Option (List ℕ) → Option (List ℕ) → Source R →
-    Result X Stop → Type 0
+    Result X (Stop DratKind) → Type 0
 Looked old new source (Ok x) = Keeps old new
 Looked old new source (Err stops.End) = ⊥
 Looked old new source (Err stops.Read) = Keeps old new × IsStopped source
@@ -70,7 +71,7 @@ Looked old new source (Err (stops.Wrong kind)) = ⊥
 Looked old new source (Err stops.OutOfMemory) = Unit {0}
 
 -- what a stop answers, with this source, after this many steps
-abbrev pub Explains : {R X : Type 0} → Source R → ℕ → Stop → Result (Option X) DratFault → Type 0
+abbrev pub Explains : {R X : Type 0} → Source R → ℕ → Stop DratKind → Result (Option X) DratFault → Type 0
 Explains source steps stops.End r = r ≡ Ok None
 Explains source steps stops.Read (Ok x) = ⊥
 Explains source steps stops.Read (Err (faults.Read e)) = IsErrorOf source e
@@ -129,7 +130,7 @@ module _ {G R S T : Type 0} (rules : Rules S T) (remaining : R → Option (List 
         → known_format new ≡ Some format
 
   -- the format was detected, unless a read failed or memory ran out
-  abbrev pub ToldBy : {X : Type 0} → StepReader G R → StepReader G R → Result X Stop → Type 0
+  abbrev pub ToldBy : {X : Type 0} → StepReader G R → StepReader G R → Result X (Stop DratKind) → Type 0
   ToldBy old new (Ok x) = TellsFormat old new
   ToldBy old new (Err stops.End) = TellsFormat old new
   ToldBy old new (Err (stops.Wrong kind)) = TellsFormat old new
@@ -138,7 +139,7 @@ module _ {G R S T : Type 0} (rules : Rules S T) (remaining : R → Option (List 
 
   -- a step was read into the draft, or none
   pub record ReadsOn {F : Type 0} (seen : F → T) (old new : StepReader G R)
-      (r : Result (StepEnd F) Stop) : Type 0 where
+      (r : Result (StepEnd F) (Stop DratKind)) : Type 0 where
     pub step : ReadsStep rules (format_now new) seen (bytes_left remaining old)
         (bytes_left remaining new) (left_to_say new) (source_of new.bytes) r
     pub nearer : IfOk r (λ _. room_in new.bytes < room_in old.bytes)
@@ -149,7 +150,7 @@ module _ {G R S T : Type 0} (rules : Rules S T) (remaining : R → Option (List 
     pub ended : has_ended new ≡ has_ended old
 
   -- the format was detected, and no byte taken
-  pub record SeesFormat (old new : StepReader G R) (r : Result Format Stop) : Type 0 where
+  pub record SeesFormat (old new : StepReader G R) (r : Result Format (Stop DratKind)) : Type 0 where
     pub looks : Looked (bytes_left remaining old) (bytes_left remaining new) (source_of new.bytes) r
     pub format : OnOk r (TellsFormat old new)
     pub now : IfOk r (λ format. known_format new ≡ Some format)

@@ -6,8 +6,8 @@ use Rattle.drat_text.specs.declared.bytes.Format.{Format}
 use Rattle.drat_text.specs.declared.bytes.Format.TheVariants.{Text, Binary}
 use Rattle.drat_text.specs.declared.fault.DratKind.{DratKind}
 use Rattle.drat_text.specs.declared.fault.DratKind.TheVariants.{NumberTooLarge, Unfinished}
-use Rattle.drat_text.specs.declared.fault.Stop.{Stop}
-use Rattle.drat_text.specs.declared.fault.Stop.TheVariants as stops
+use Rattle.sat_formula.specs.declared.stop.Stop.{Stop}
+use Rattle.sat_formula.specs.declared.stop.Stop.TheVariants as stops
 use Rattle.drat_text.specs.declared.step.StepEnd.{StepEnd}
 use Rattle.drat_text.specs.declared.text.TextNumber.{TextNumber}
 use Rattle.drat_text.specs.Bytes.{is_space}
@@ -25,7 +25,7 @@ Begins slot letter true = letter ≡ Some slot
 Begins slot letter false = letter ≡ None
 
 -- what a number does was done: the step has ended, or this was read of it
-abbrev pub TakesNumber : {S T F : Type 0} → (F → T) → S → After S T → Result (Option F) Stop →
+abbrev pub TakesNumber : {S T F : Type 0} → (F → T) → S → After S T → Result (Option F) (Stop DratKind) →
     Type 0
 TakesNumber step slot a (Ok (Some found)) = a ≡ Gives (step found)
 TakesNumber step slot a (Ok None) = a ≡ Goes (Within slot)
@@ -51,7 +51,7 @@ pub data FailsCode (last : ℕ) (old new : Option (List ℕ)) : DratKind → Typ
 
 -- it was read, of bytes up to one of this weight
 abbrev pub TakesCode : {R : Type 0} → ℕ → Option (List ℕ) → Option (List ℕ) → Source R →
-    Result ℕ Stop → Type 0
+    Result ℕ (Stop DratKind) → Type 0
 TakesCode last old new source (Ok n) = Leads old new (code_at last 0 1) (λ more. (Whole n, more))
 TakesCode last old new source (Err stops.End) = ⊥
 TakesCode last old new source (Err stops.Read) = BreaksCode last old new × IsStopped source
@@ -81,13 +81,13 @@ module _ {S T : Type 0} (r : Rules S T) where
 
   -- a comment was read
   abbrev pub ReadsTo : {R X : Type 0} → Place S → Option (List ℕ) → Option (List ℕ) →
-      (List ℕ → Outcome T) → Source R → Result X Stop → Type 0
+      (List ℕ → Outcome T) → Source R → Result X (Stop DratKind) → Type 0
   ReadsTo p old new f source (Ok x) = Leads old new f (outcome_at r Text p)
   ReadsTo p old new f source (Err stop) = Stopped r Text old new f source stop
 
   -- the first byte of a step of text, which comes before the rest
   abbrev pub ReadsFirst : {R : Type 0} → Option (List ℕ) → Option (List ℕ) →
-      (List ℕ → Outcome T) → Source R → Result ℕ Stop → Type 0
+      (List ℕ → Outcome T) → Source R → Result ℕ (Stop DratKind) → Type 0
   ReadsFirst old new f source (Ok byte) =
       Leads old new f (λ more. outcome_at r Text Outside (byte ∷ more))
   ReadsFirst old new f source (Err stop) = Stopped r Text old new f source stop
@@ -100,20 +100,20 @@ module _ {S T : Type 0} (r : Rules S T) where
 
   -- a number of a text was read
   abbrev pub ReadsNumber : {R : Type 0} → S → Option (List ℕ) → Option (List ℕ) →
-      (List ℕ → Outcome T) → Source R → Result TextNumber Stop → Type 0
+      (List ℕ → Outcome T) → Source R → Result TextNumber (Stop DratKind) → Type 0
   ReadsNumber slot old new f source (Ok n) =
       Says (r.said slot n.negative n.value) n.last old new f
   ReadsNumber slot old new f source (Err stop) = Stopped r Text old new f source stop
 
   -- a binary number was read
   abbrev pub ReadsCode : {R : Type 0} → S → Option (List ℕ) → Option (List ℕ) →
-      (List ℕ → Outcome T) → Source R → Result ℕ Stop → Type 0
+      (List ℕ → Outcome T) → Source R → Result ℕ (Stop DratKind) → Type 0
   ReadsCode slot old new f source (Ok n) = Leads old new f (goes_on Binary (coded r slot n))
   ReadsCode slot old new f source (Err stop) = Stopped r Binary old new f source stop
 
   -- a step was read, which is seen so
   abbrev pub ReadsStep : {R F : Type 0} → Format → (F → T) → Option (List ℕ) →
-      Option (List ℕ) → (List ℕ → Outcome T) → Source R → Result (StepEnd F) Stop → Type 0
+      Option (List ℕ) → (List ℕ → Outcome T) → Source R → Result (StepEnd F) (Stop DratKind) → Type 0
   ReadsStep format step old new f source (Ok e) =
       GivesStep format old new f (step e.found) e.last
   ReadsStep format step old new f source (Err stop) = Stopped r format old new f source stop

@@ -8,16 +8,17 @@ ghost use Rattle.drat_text.specs.Taking.{unread_bytes, room_in, source_of};
 
 use crate::bytes::{Bytes, Format};
 use crate::code::read_code;
-use crate::fault::{DratKind, Stop};
+use crate::fault::DratKind;
 use crate::grammar::Grammar;
 use crate::step::StepEnd;
+use sat_formula::stop::Stop;
 use std::io::Read;
 
 /// Reads a step into a draft, and returns how it ended.
 pub(crate) fn binary_step<G: Grammar, R: Read>(
     bytes: &mut Bytes<R>,
     draft: &mut G,
-) -> Result<StepEnd<G::Found>, Stop>
+) -> Result<StepEnd<G::Found>, Stop<DratKind>>
     ensures read { ReadsStep G.rules formats.Binary (G.step_of draft.new)
         (unread_bytes R.remaining bytes.old) (unread_bytes R.remaining bytes.new)
         (outcome_in G.rules formats.Binary) (source_of bytes.new) result }
@@ -35,7 +36,7 @@ pub(crate) fn binary_step<G: Grammar, R: Read>(
 fn codes<G: Grammar, R: Read>(
     bytes: &mut Bytes<R>,
     draft: &mut G,
-) -> Result<StepEnd<G::Found>, Stop>
+) -> Result<StepEnd<G::Found>, Stop<DratKind>>
     ensures read { ReadsStep G.rules formats.Binary (G.step_of draft.new)
         (unread_bytes R.remaining bytes.old) (unread_bytes R.remaining bytes.new)
         (outcome_at G.rules formats.Binary (Within (G.slot_of draft.old))) (source_of bytes.new)
@@ -53,7 +54,7 @@ fn codes<G: Grammar, R: Read>(
 
 /// Passes a binary number to a draft.
 #[inline(always)]
-fn take_code<G: Grammar>(draft: &mut G, code: u64) -> Result<Option<G::Found>, Stop>
+fn take_code<G: Grammar>(draft: &mut G, code: u64) -> Result<Option<G::Found>, Stop<DratKind>>
     ensures { TakesNumber (G.step_of draft.new) (G.slot_of draft.new)
         (coded G.rules (G.slot_of draft.old) code) result }
 {

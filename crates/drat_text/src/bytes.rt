@@ -3,9 +3,10 @@ ghost use Rattle.std.specs.Prelude.{◌≡◌, ◌<◌, ◌≤◌, ◌+◌, ◌-
 ghost use Rattle.std.specs.Io.KnownBytes.{Consumes};
 ghost use Rattle.sat_formula.specs.Source.{is_limited};
 
-use crate::fault::{DratKind, Stop};
+use crate::fault::DratKind;
 use crate::number::is_text_byte;
 use sat_formula::source::{NoByte, Source};
+use sat_formula::stop::Stop;
 use std::alloc::Global;
 use std::io;
 use std::io::Read;
@@ -71,7 +72,7 @@ impl<R: Read> Bytes<R> {
     ///
     /// Why there is none: the end of the input, a failed read or out of memory.
     #[inline(always)]
-    pub fn next_byte(&mut self) -> Result<u8, Stop>
+    pub fn next_byte(&mut self) -> Result<u8, Stop<DratKind>>
         ensures byte { Takes (unread_bytes R.remaining self.old)
             (unread_bytes R.remaining self.new) self.new.source result }
         ensures nearer { IfOk result (λ _. room_in self.new < room_in self.old) }
@@ -94,7 +95,7 @@ impl<R: Read> Bytes<R> {
     ///
     /// As for `next_byte`, but the end of the input is the fault `Unfinished`.
     #[inline(always)]
-    pub fn next_within(&mut self) -> Result<u8, Stop>
+    pub fn next_within(&mut self) -> Result<u8, Stop<DratKind>>
         ensures byte { TakesWithin (unread_bytes R.remaining self.old)
             (unread_bytes R.remaining self.new) self.new.source result }
         ensures nearer { IfOk result (λ _. room_in self.new < room_in self.old) }
@@ -134,7 +135,7 @@ impl<R: Read> Bytes<R> {
     /// # Errors
     ///
     /// A failed read or out of memory.
-    pub fn look_on(&mut self) -> Result<Format, Stop>
+    pub fn look_on(&mut self) -> Result<Format, Stop<DratKind>>
         ensures format { Looks (λ bytes. by_text_bytes (take 4096 bytes))
             (unread_bytes R.remaining self.old) (unread_bytes R.remaining self.new)
             self.new.source result }
@@ -159,7 +160,7 @@ impl<R: Read> Bytes<R> {
     /// # Errors
     ///
     /// A failed read or out of memory.
-    pub fn peek(&mut self, place: usize) -> Result<Option<u8>, Stop>
+    pub fn peek(&mut self, place: usize) -> Result<Option<u8>, Stop<DratKind>>
         requires { place ≤ length (front_of self.old) }
         ensures peek { Peeks (unread_bytes R.remaining self.old)
             (unread_bytes R.remaining self.new) place self.new.source result }
@@ -174,7 +175,7 @@ impl<R: Read> Bytes<R> {
 
     /// Returns the next byte of the source, if there is one. It is in front from then on, as the
     /// last.
-    fn pull(&mut self) -> Result<Option<u8>, Stop>
+    fn pull(&mut self) -> Result<Option<u8>, Stop<DratKind>>
         ensures peek { Peeks (unread_bytes R.remaining self.old)
             (unread_bytes R.remaining self.new) (length (front_of self.old)) self.new.source
             result }

@@ -6,7 +6,8 @@ ghost use Rattle.drat_text.specs.Reading.{TakesCode};
 ghost use Rattle.drat_text.specs.Taking.{Leads, unread_bytes, room_in, source_of};
 
 use crate::bytes::Bytes;
-use crate::fault::{DratKind, Stop};
+use crate::fault::DratKind;
+use sat_formula::stop::Stop;
 use std::io::Read;
 
 /// No number has more bytes.
@@ -19,7 +20,7 @@ const LONGEST_CODE: usize = 9;
 ///
 /// The fault of a number that is too large or unfinished, a failed read or out of memory.
 #[inline(always)]
-pub fn read_code<R: Read>(bytes: &mut Bytes<R>, last_weight: u64) -> Result<u64, Stop>
+pub fn read_code<R: Read>(bytes: &mut Bytes<R>, last_weight: u64) -> Result<u64, Stop<DratKind>>
     requires { IsLastWeight last_weight }
     ensures read { TakesCode last_weight (unread_bytes R.remaining bytes.old)
         (unread_bytes R.remaining bytes.new) (source_of bytes.new) result }
@@ -74,7 +75,7 @@ fn code_ahead(bytes: &[u8], last_weight: u64) -> Option<(u64, usize)>
 
 /// Reads a number, a byte at a time.
 #[inline(never)]
-fn code_by_bytes<R: Read>(bytes: &mut Bytes<R>, last_weight: u64) -> Result<u64, Stop>
+fn code_by_bytes<R: Read>(bytes: &mut Bytes<R>, last_weight: u64) -> Result<u64, Stop<DratKind>>
     requires { IsLastWeight last_weight }
     ensures read { TakesCode last_weight (unread_bytes R.remaining bytes.old)
         (unread_bytes R.remaining bytes.new) (source_of bytes.new) result }

@@ -4,10 +4,11 @@ ghost use Rattle.drat_text.specs.DratRules.{Slot, Step, drat, slot_of, step_of, 
 ghost use Rattle.drat_text.specs.declared.drat.Action.{Action};
 
 use crate::bytes::Format;
-use crate::fault::Stop;
+use crate::fault::DratKind;
 use crate::grammar::Grammar;
 use crate::number::{begins_comment, lit_said};
 use sat_formula::Lit;
+use sat_formula::stop::Stop;
 use std::alloc::Global;
 
 /// The weight of the fifth byte of a binary number, which is its last.
@@ -101,7 +102,7 @@ impl Grammar for Draft {
     }
 
     #[inline(always)]
-    fn take(&mut self, negative: bool, value: u64) -> Result<Option<Action>, Stop> {
+    fn take(&mut self, negative: bool, value: u64) -> Result<Option<Action>, Stop<DratKind>> {
         match lit_said(negative, value) {
             Ok(Some(lit)) => {
                 self.lits.push(lit)?;

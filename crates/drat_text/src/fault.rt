@@ -1,10 +1,4 @@
 //! Why a step could not be read.
-ghost use Rattle.std.specs.Prelude.{◌≡◌};
-ghost use Rattle.drat_text.specs.Stops.{stop_of};
-ghost use Rattle.drat_text.specs.declared.fault.Stop.TheVariants as stops;
-
-use sat_formula::source::NoByte;
-use std::alloc::AllocFailed;
 use std::io;
 use thiserror::Error;
 
@@ -35,37 +29,4 @@ pub enum DratFault {
     /// There was no memory for a step or for the bytes read ahead.
     #[error("out of memory")]
     OutOfMemory,
-}
-
-/// Why reading stops. It is small, since it passes through the loops over bytes.
-#[derive(Clone, Copy)]
-pub enum Stop {
-    /// The input ended, and no step was begun.
-    End,
-    /// A read failed; the source has the error.
-    Read,
-    /// The first fault of the proof.
-    Wrong(DratKind),
-    /// There was no memory.
-    OutOfMemory,
-}
-
-impl From<NoByte> for Stop {
-    ghost from_gives = { λ reason stop. stop ≡ stop_of reason };
-
-    fn from(reason: NoByte) -> Stop {
-        match reason {
-            NoByte::End => Stop::End,
-            NoByte::Read => Stop::Read,
-            NoByte::OutOfMemory => Stop::OutOfMemory,
-        }
-    }
-}
-
-impl<T: Drop> From<AllocFailed<T>> for Stop {
-    ghost from_gives = { λ _ stop. stop ≡ stops.OutOfMemory };
-
-    fn from(_e: AllocFailed<T>) -> Stop {
-        Stop::OutOfMemory
-    }
 }

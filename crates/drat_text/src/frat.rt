@@ -10,11 +10,12 @@ ghost use Rattle.drat_text.specs.FratSlots.{Slot};
 ghost use Rattle.drat_text.specs.FratProofs.{Step};
 
 use crate::bytes::Format;
-use crate::fault::{DratKind, Stop};
+use crate::fault::DratKind;
 use crate::frat_step::{FratAction, FratHint, FratStep, Renaming};
 use crate::grammar::Grammar;
 use crate::number::lit_said;
 use sat_formula::Lit;
+use sat_formula::stop::Stop;
 use std::alloc::Global;
 
 /// The largest id.
@@ -74,7 +75,7 @@ impl Draft {
         id: u64,
         negative: bool,
         value: u64,
-    ) -> Result<Option<Found>, Stop>
+    ) -> Result<Option<Found>, Stop<DratKind>>
         requires { self.old.due ≡ dues.Lit action id }
         ensures { TakesNumber (found_step self.new) (slot_of self.new)
             (said (slot_of self.old) negative value) result }
@@ -91,7 +92,7 @@ impl Draft {
 
     /// Takes a hint, or the 0 after the last.
     #[inline(always)]
-    fn take_hint(&mut self, negative: bool, value: u64) -> Result<Option<Found>, Stop>
+    fn take_hint(&mut self, negative: bool, value: u64) -> Result<Option<Found>, Stop<DratKind>>
         requires { self.old.due ≡ dues.Hint }
         ensures { TakesNumber (found_step self.new) (slot_of self.new)
             (said (slot_of self.old) negative value) result }
@@ -118,7 +119,7 @@ impl Draft {
         action: FratAction,
         negative: bool,
         value: u64,
-    ) -> Result<Option<Found>, Stop>
+    ) -> Result<Option<Found>, Stop<DratKind>>
         requires { self.old.due ≡ dues.Id action }
         ensures { TakesNumber (found_step self.new) (slot_of self.new)
             (said (slot_of self.old) negative value) result }
@@ -134,7 +135,7 @@ impl Draft {
     }
 
     /// Takes an id that a clause has, or the 0 after the last pair.
-    fn take_from(&mut self, negative: bool, value: u64) -> Result<Option<Found>, Stop>
+    fn take_from(&mut self, negative: bool, value: u64) -> Result<Option<Found>, Stop<DratKind>>
         requires { self.old.due ≡ dues.From }
         ensures { TakesNumber (found_step self.new) (slot_of self.new)
             (said (slot_of self.old) negative value) result }
@@ -153,7 +154,12 @@ impl Draft {
     }
 
     /// Takes the id that a clause gets.
-    fn take_to(&mut self, from: u64, negative: bool, value: u64) -> Result<Option<Found>, Stop>
+    fn take_to(
+        &mut self,
+        from: u64,
+        negative: bool,
+        value: u64,
+    ) -> Result<Option<Found>, Stop<DratKind>>
         requires { self.old.due ≡ dues.To from }
         ensures { TakesNumber (found_step self.new) (slot_of self.new)
             (said (slot_of self.old) negative value) result }
@@ -222,7 +228,7 @@ impl Grammar for Draft {
     }
 
     #[inline(always)]
-    fn take(&mut self, negative: bool, value: u64) -> Result<Option<Found>, Stop> {
+    fn take(&mut self, negative: bool, value: u64) -> Result<Option<Found>, Stop<DratKind>> {
         match self.due {
             Due::Lit(action, id) => self.take_lit(action, id, negative, value),
             Due::Hint => self.take_hint(negative, value),

@@ -5,8 +5,9 @@ ghost use Rattle.drat_text.specs.FratBytes.{is_frat, seen_at};
 ghost use Rattle.drat_text.specs.FratTelling.{TellsFrat};
 
 use crate::bytes::{Bytes, LOOKED_AT};
-use crate::fault::{DratFault, Stop};
+use crate::fault::{DratFault, DratKind};
 use crate::number::{begins_comment, is_space};
+use sat_formula::stop::Stop;
 use std::io::Read;
 
 /// What a byte before the first step shows.
@@ -38,7 +39,7 @@ pub fn is_frat<R: Read>(bytes: &mut Bytes<R>) -> Result<bool, DratFault>
 }
 
 /// Looks at the next bytes up to the first step.
-fn look_through<R: Read>(bytes: &mut Bytes<R>) -> Result<bool, Stop>
+fn look_through<R: Read>(bytes: &mut Bytes<R>) -> Result<bool, Stop<DratKind>>
     ensures told { Looks is_frat (unread_bytes R.remaining bytes.old)
         (unread_bytes R.remaining bytes.new) (source_of bytes.new) result }
     ensures room { room_in bytes.new ≤ room_in bytes.old }

@@ -4,7 +4,8 @@ ghost use Rattle.drat_text.specs.Places.{Rules, IsLastWeight};
 ghost use Rattle.drat_text.specs.Reading.{Begins, TakesNumber};
 
 use crate::bytes::Format;
-use crate::fault::Stop;
+use crate::fault::DratKind;
+use sat_formula::stop::Stop;
 
 /// A kind of proof. A value is a draft: what was read of a step.
 pub trait Grammar: Drop {
@@ -45,7 +46,7 @@ pub trait Grammar: Drop {
     /// # Errors
     ///
     /// Why the number is not allowed here, or out of memory.
-    fn take(&mut self, negative: bool, value: u64) -> Result<Option<Self::Found>, Stop>
+    fn take(&mut self, negative: bool, value: u64) -> Result<Option<Self::Found>, Stop<DratKind>>
         ensures { TakesNumber (step_of self.new) (slot_of self.new)
             (rules.said (slot_of self.old) negative value) result };
 

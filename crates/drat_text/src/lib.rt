@@ -14,8 +14,7 @@ pub mod bytes;
 pub mod code;
 mod drat;
 mod drat_reader;
-#[doc(hidden)]
-pub mod fault;
+mod fault;
 mod frat;
 mod frat_reader;
 mod frat_step;

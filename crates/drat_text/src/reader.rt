@@ -5,10 +5,11 @@ ghost use Rattle.drat_text.specs.Taking.{Looks, room_in, source_of, unread_bytes
 
 use crate::binary::binary_step;
 use crate::bytes::{Bytes, Format};
-use crate::fault::{DratFault, Stop};
+use crate::fault::{DratFault, DratKind};
 use crate::grammar::Grammar;
 use crate::step::StepEnd;
 use crate::text::text_step;
+use sat_formula::stop::Stop;
 use std::io::Read;
 
 /// A reader of the steps of a proof, one after the other, into a draft.
@@ -87,7 +88,7 @@ impl<G: Grammar, R: Read> StepReader<G, R> {
     }
 
     /// Reads a step into the draft.
-    fn read(&mut self) -> Result<StepEnd<G::Found>, Stop>
+    fn read(&mut self) -> Result<StepEnd<G::Found>, Stop<DratKind>>
         ensures { ReadsOn G.rules R.remaining (G.step_of (draft_of self.new)) self.old self.new
             result }
     {
@@ -98,7 +99,7 @@ impl<G: Grammar, R: Read> StepReader<G, R> {
     }
 
     /// Returns the format, detected from the first bytes if it is not known.
-    fn format(&mut self) -> Result<Format, Stop>
+    fn format(&mut self) -> Result<Format, Stop<DratKind>>
         ensures { SeesFormat G.rules R.remaining self.old self.new result }
     {
         if let Some(format) = self.format {
@@ -110,7 +111,7 @@ impl<G: Grammar, R: Read> StepReader<G, R> {
     }
 
     /// Returns the result for a stop.
-    fn stopped(&self, stop: Stop) -> Result<Option<G::Found>, DratFault>
+    fn stopped(&self, stop: Stop<DratKind>) -> Result<Option<G::Found>, DratFault>
         requires { stop ≡ Stop.Read → IsStopped (source_of self.now.bytes) }
         ensures { Explains (source_of self.now.bytes) (steps_given self.now) stop result }
     {
@@ -127,7 +128,7 @@ impl<G: Grammar, R: Read> StepReader<G, R> {
 }
 
 /// Detects the format from the next bytes, and takes none of them.
-fn look<G: Grammar, R: Read>(bytes: &mut Bytes<R>) -> Result<Format, Stop>
+fn look<G: Grammar, R: Read>(bytes: &mut Bytes<R>) -> Result<Format, Stop<DratKind>>
     ensures format { Looks (format_of G.rules) (unread_bytes R.remaining bytes.old)
         (unread_bytes R.remaining bytes.new) (source_of bytes.new) result }
     ensures room { room_in bytes.new ≤ room_in bytes.old }

@@ -10,11 +10,12 @@ ghost use Rattle.drat_text.specs.Steps.{Outcome};
 ghost use Rattle.drat_text.specs.Taking.{unread_bytes, room_in, source_of};
 
 use crate::bytes::{Bytes, Format};
-use crate::fault::{DratKind, Stop};
+use crate::fault::DratKind;
 use crate::grammar::Grammar;
 use crate::number::is_space;
 use crate::step::StepEnd;
 use sat_formula::bytes::is_digit;
+use sat_formula::stop::Stop;
 use std::io::Read;
 
 /// Values above it are unspecified, and only that is kept of them.
@@ -34,7 +35,7 @@ pub(crate) struct TextNumber {
 pub(crate) fn text_step<G: Grammar, R: Read>(
     bytes: &mut Bytes<R>,
     draft: &mut G,
-) -> Result<StepEnd<G::Found>, Stop>
+) -> Result<StepEnd<G::Found>, Stop<DratKind>>
     ensures read { ReadsStep G.rules formats.Text (G.step_of draft.new)
         (unread_bytes R.remaining bytes.old) (unread_bytes R.remaining bytes.new)
         (outcome_in G.rules formats.Text) (source_of bytes.new) result }
@@ -54,7 +55,7 @@ pub(crate) fn text_step<G: Grammar, R: Read>(
 }
 
 /// Returns the first byte of a step. Blanks and comments before it are passed over.
-fn first_byte<G: Grammar, R: Read>(bytes: &mut Bytes<R>) -> Result<u8, Stop>
+fn first_byte<G: Grammar, R: Read>(bytes: &mut Bytes<R>) -> Result<u8, Stop<DratKind>>
     ensures read { ReadsFirst G.rules
         (unread_bytes R.remaining bytes.old) (unread_bytes R.remaining bytes.new)
         (outcome_in G.rules formats.Text) (source_of bytes.new) result }
@@ -73,7 +74,7 @@ fn first_byte<G: Grammar, R: Read>(bytes: &mut Bytes<R>) -> Result<u8, Stop>
 }
 
 /// Passes over the rest of a comment, and the LF after it.
-fn comment<G: Grammar, R: Read>(bytes: &mut Bytes<R>) -> Result<(), Stop>
+fn comment<G: Grammar, R: Read>(bytes: &mut Bytes<R>) -> Result<(), Stop<DratKind>>
     ensures read { ReadsTo G.rules Outside
         (unread_bytes R.remaining bytes.old) (unread_bytes R.remaining bytes.new)
         (outcome_at G.rules formats.Text Comment) (source_of bytes.new) result }
@@ -91,7 +92,7 @@ fn numbers<G: Grammar, R: Read>(
     bytes: &mut Bytes<R>,
     draft: &mut G,
     first: TextNumber,
-) -> Result<StepEnd<G::Found>, Stop>
+) -> Result<StepEnd<G::Found>, Stop<DratKind>>
     ensures read { (before : List ℕ → Outcome G.Step) (all : Option (List ℕ))
         → Says G.rules (G.rules.said (G.slot_of draft.old) first.negative first.value) first.last
         all (unread_bytes R.remaining bytes.old) before
@@ -114,7 +115,7 @@ fn numbers<G: Grammar, R: Read>(
 
 /// Reads the next number, and the blank or LF after it.
 #[inline(always)]
-fn next_number<G: Grammar, R: Read>(bytes: &mut Bytes<R>) -> Result<TextNumber, Stop>
+fn next_number<G: Grammar, R: Read>(bytes: &mut Bytes<R>) -> Result<TextNumber, Stop<DratKind>>
     ensures read { (slot : G.Slot) → ReadsNumber G.rules slot
         (unread_bytes R.remaining bytes.old) (unread_bytes R.remaining bytes.new)
         (outcome_at G.rules formats.Text (Within slot)) (source_of bytes.new) result }
@@ -131,7 +132,10 @@ fn next_number<G: Grammar, R: Read>(bytes: &mut Bytes<R>) -> Result<TextNumber, 
 
 /// Reads on a number that begins with this byte.
 #[inline(always)]
-fn number<G: Grammar, R: Read>(bytes: &mut Bytes<R>, first: u8) -> Result<TextNumber, Stop>
+fn number<G: Grammar, R: Read>(
+    bytes: &mut Bytes<R>,
+    first: u8,
+) -> Result<TextNumber, Stop<DratKind>>
     requires { is_space first ≡ false }
     ensures read { (slot : G.Slot) → ReadsNumber G.rules slot
         (unread_bytes R.remaining bytes.old) (unread_bytes R.remaining bytes.new)
@@ -152,7 +156,7 @@ fn digits<G: Grammar, R: Read>(
     bytes: &mut Bytes<R>,
     negative: bool,
     first: u8,
-) -> Result<TextNumber, Stop>
+) -> Result<TextNumber, Stop<DratKind>>
     ensures read { (slot : G.Slot) → ReadsNumber G.rules slot
         (unread_bytes R.remaining bytes.old) (unread_bytes R.remaining bytes.new)
         (goes_on G.rules formats.Text (first_digit slot negative first)) (source_of bytes.new) result }

@@ -5,8 +5,8 @@ use Rattle.sat_formula.specs.declared.source.Source.{Source}
 use Rattle.sat_formula.specs.Outcome.{next_line}
 use Rattle.sat_formula.proofs.Readings.{ends_by, leads_by}
 use Rattle.drat_text.specs.declared.fault.DratKind.{DratKind}
-use Rattle.drat_text.specs.declared.fault.Stop.{Stop}
-use Rattle.drat_text.specs.declared.fault.Stop.TheVariants as stops
+use Rattle.sat_formula.specs.declared.stop.Stop.{Stop}
+use Rattle.sat_formula.specs.declared.stop.Stop.TheVariants as stops
 use Rattle.drat_text.specs.Codes.{Code, code_at}
 use Rattle.drat_text.specs.Reading.{FailsCode, TakesCode, cut_off, too_long}
 use Rattle.drat_text.proofs.CodeLemmas.{partial_says}
@@ -40,7 +40,7 @@ module _ (ids : Ids) (before : ℕ) (slot : Slot) where
   fails_read (cut_off v w p) = by_end (ends_by does begun_read p)
 
   -- a number does what its value does
-  pub code_read : {R : Type 0} (a b : Known) (source : Source R) (n : Result ℕ Stop) → TakesCode (2 ^ 56) a b source n →
+  pub code_read : {R : Type 0} (a b : Known) (source : Source R) (n : Result ℕ (Stop DratKind)) → TakesCode (2 ^ 56) a b source n →
       ReadsCode ids before slot a b (outcome_at ids before (Within slot)) source n
   code_read a b source (Ok n) p = leads_by does begun_read p (λ m. refl)
   code_read a b source (Err stops.Read) p =

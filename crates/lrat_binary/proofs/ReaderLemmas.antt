@@ -6,8 +6,9 @@ use Rattle.sat_formula.specs.Source.{IsStopped}
 use Rattle.sat_formula.specs.declared.source.Source.{Source}
 use Rattle.lrat_rules.specs.Lines.{Line}
 use Rattle.drat_text.specs.Taking.{source_of}
-use Rattle.drat_text.specs.declared.fault.Stop.{Stop}
-use Rattle.drat_text.specs.declared.fault.Stop.TheVariants as stops
+use Rattle.drat_text.specs.declared.fault.DratKind.{DratKind}
+use Rattle.sat_formula.specs.declared.stop.Stop.{Stop}
+use Rattle.sat_formula.specs.declared.stop.Stop.TheVariants as stops
 use Rattle.lrat_text.specs.Texts.{Outcome}
 use Rattle.lrat_text.specs.declared.fault.LratTextFault.{LratTextFault}
 use Rattle.lrat_text.specs.declared.fault.LratTextFault.TheVariants as faults
@@ -18,7 +19,7 @@ use Rattle.lrat_binary.specs.Reading.{line_then}
 use Rattle.lrat_binary.specs.Taking.{Stopped}
 
 -- a read that failed has stopped the source
-pub stopped_source : {R : Type 0} (ids : Ids) (before : ℕ) (a b : Option (List ℕ)) (f : List ℕ → Outcome) (source : Source R) (stop : Stop) → Stopped ids before a b f source stop →
+pub stopped_source : {R : Type 0} (ids : Ids) (before : ℕ) (a b : Option (List ℕ)) (f : List ℕ → Outcome) (source : Source R) (stop : Stop DratKind) → Stopped ids before a b f source stop →
     stop ≡ stops.Read → IsStopped source
 stopped_source ids before a b f source stops.Read s e = s.1
 stopped_source ids before a b f source stop s e = absurd cc
@@ -31,7 +32,7 @@ pub line_answers : {R X : Type 0} (remaining : R → Option (List ℕ)) (seen : 
 line_answers remaining seen old new x leads number ids ended on less = rw (number, ids, ended, on) (leads, refl, omega (arith, less))
 
 -- nothing is read after a stop
-pub stop_answers : {R X : Type 0} (remaining : R → Option (List ℕ)) (seen : X → Line) (old mid new : BinaryReader R) (stop : Stop) (r : Result (Option X) LratTextFault) →
+pub stop_answers : {R X : Type 0} (remaining : R → Option (List ℕ)) (seen : X → Line) (old mid new : BinaryReader R) (stop : Stop DratKind) (r : Result (Option X) LratTextFault) →
     Stopped (ids_of old) (line_number old) (bytes_left remaining old) (bytes_left remaining mid) (rest_of old) (source_of mid.bytes) stop →
     Explains (source_of mid.bytes) (line_number old) stop r → new.bytes ≡ mid.bytes → line_number mid ≡ line_number old → Numbers mid new r → has_ended new ≡ true →
     Answers remaining seen old new r

@@ -7,8 +7,9 @@ use Rattle.sat_formula.specs.declared.source.Source.{Source}
 use Rattle.sat_formula.proofs.Readings.{leads_as, kept_on, ends_as, end_here}
 use Rattle.sat_formula.proofs.Readings as readings
 use Rattle.lrat_text.specs.Texts.{Outcome, Ended, Faulty}
-use Rattle.drat_text.specs.declared.fault.Stop.{Stop}
-use Rattle.drat_text.specs.declared.fault.Stop.TheVariants as stops
+use Rattle.drat_text.specs.declared.fault.DratKind.{DratKind}
+use Rattle.sat_formula.specs.declared.stop.Stop.{Stop}
+use Rattle.sat_formula.specs.declared.stop.Stop.TheVariants as stops
 use Rattle.drat_text.specs.Taking.{Takes}
 use Rattle.drat_text.proofs.Takings.{stops_on}
 use Rattle.lrat_binary.specs.declared.ids.Ids.{Ids}
@@ -21,7 +22,7 @@ use Rattle.lrat_binary.specs.Taking.{Stopped}
 abbrev pub Tells : Type 0
 Tells = List ℕ → Outcome
 
-pub stopped_on : {R : Type 0} {a b : Known} (c : Known) {f g : Tells} (ids : Ids) (before : ℕ) (source : Source R) (stop : Stop) →
+pub stopped_on : {R : Type 0} {a b : Known} (c : Known) {f g : Tells} (ids : Ids) (before : ℕ) (source : Source R) (stop : Stop DratKind) →
     Leads a b f g → Stopped ids before b c g source stop → Stopped ids before a c f source stop
 stopped_on c ids before source stop p q = stops_on (outcome_at ids before) ([], Ended) (λ kind. ([], Faulty (next_line before) (line_kind kind))) c source stop p q
 
@@ -45,7 +46,7 @@ module _ (ids : Ids) (before : ℕ) (p : Place) where
   end_at l k e = ends_as (end_here l k.0 k.1) e
 
   -- the input ends where it may
-  pub no_byte : {R : Type 0} {a b : Known} (c : Known) {f : Tells} (source : Source R) (stop : Stop) → at_end before p ≡ ([], Ended) →
+  pub no_byte : {R : Type 0} {a b : Known} (c : Known) {f : Tells} (source : Source R) (stop : Stop DratKind) → at_end before p ≡ ([], Ended) →
       Leads a b f (outcome_at ids before p) → Takes b c source (Err stop) → Stopped ids before a c f source stop
   no_byte c source stops.End e l t = end_at l t e
   no_byte c source stops.Read e l t = (record { place = p; leads = kept_on l t.0 }, t.1)

@@ -3,8 +3,9 @@
 --     BeginsLine, TakesNumber      what a letter and a number did
 use Rattle.std.specs.Prelude.{◌≡◌, ℕ, List, Option, Some, None, Result, Ok, Err}
 use Rattle.lrat_rules.specs.Lines.{Line}
-use Rattle.drat_text.specs.declared.fault.Stop.{Stop}
-use Rattle.drat_text.specs.declared.fault.Stop.TheVariants as stops
+use Rattle.drat_text.specs.declared.fault.DratKind.{DratKind}
+use Rattle.sat_formula.specs.declared.stop.Stop.{Stop}
+use Rattle.sat_formula.specs.declared.stop.Stop.TheVariants as stops
 use Rattle.lrat_text.specs.Reading as rows
 use Rattle.lrat_text.specs.declared.line.Hint.{Hint}
 use Rattle.lrat_text.specs.declared.row.Head.{Head}
@@ -29,7 +30,7 @@ abbrev pub line_of : Draft → Head → Line
 line_of d head = rows.line_of d.row head
 
 -- a byte began the draft, or stops the reading
-abbrev pub BeginsLine : {X : Type 0} → Draft → After → Result X Stop → Type 0
+abbrev pub BeginsLine : {X : Type 0} → Draft → After → Result X (Stop DratKind) → Type 0
 BeginsLine d a (Ok x) = a ≡ Goes (Within (slot_of d))
 BeginsLine d a (Err stops.End) = ⊥
 BeginsLine d a (Err stops.Read) = ⊥
@@ -37,7 +38,7 @@ BeginsLine d a (Err (stops.Wrong kind)) = a ≡ Stops kind
 BeginsLine d a (Err stops.OutOfMemory) = ⊥
 
 -- what a number does was done to the draft
-abbrev pub TakesNumber : Draft → After → Result (Option Head) Stop → Type 0
+abbrev pub TakesNumber : Draft → After → Result (Option Head) (Stop DratKind) → Type 0
 TakesNumber d a (Ok (Some head)) = a ≡ Gives (line_of d head)
 TakesNumber d a (Ok None) = a ≡ Goes (Within (slot_of d))
 TakesNumber d a (Err stops.End) = ⊥

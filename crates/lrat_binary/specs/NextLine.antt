@@ -9,8 +9,9 @@ use Rattle.sat_formula.specs.declared.source.Source.{Source}
 use Rattle.sat_formula.specs.Source.{IsErrorOf}
 use Rattle.lrat_rules.specs.Lines.{Line}
 use Rattle.drat_text.specs.Taking.{unread_bytes, room_in, source_of}
-use Rattle.drat_text.specs.declared.fault.Stop.{Stop}
-use Rattle.drat_text.specs.declared.fault.Stop.TheVariants as stops
+use Rattle.drat_text.specs.declared.fault.DratKind.{DratKind}
+use Rattle.sat_formula.specs.declared.stop.Stop.{Stop}
+use Rattle.sat_formula.specs.declared.stop.Stop.TheVariants as stops
 use Rattle.lrat_text.specs.NextLine.{view}
 use Rattle.lrat_text.specs.Texts.{Ended, Faulty, Outcome, with_line}
 use Rattle.lrat_text.specs.declared.fault.LratTextFault.{LratTextFault}
@@ -92,7 +93,7 @@ pub record Gives {R : Type 0} (remaining : R → Option (List ℕ)) (old new : B
   pub stays : has_ended old ≡ true → (r ≡ Ok None) × (new ≡ old)
 
 -- what a stop answers, with this source, after this many lines
-abbrev pub Explains : {R X : Type 0} → Source R → ℕ → Stop → Result (Option X) LratTextFault →
+abbrev pub Explains : {R X : Type 0} → Source R → ℕ → Stop DratKind → Result (Option X) LratTextFault →
     Type 0
 Explains source before stops.End r = r ≡ Ok None
 Explains source before stops.Read (Ok x) = ⊥

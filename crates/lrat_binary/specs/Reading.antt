@@ -4,7 +4,8 @@ use Rattle.sat_formula.specs.Outcome.{next_line}
 use Rattle.sat_formula.specs.Readings.{Leads}
 use Rattle.sat_formula.specs.declared.source.Source.{Source}
 use Rattle.lrat_rules.specs.Lines.{Line}
-use Rattle.drat_text.specs.declared.fault.Stop.{Stop}
+use Rattle.drat_text.specs.declared.fault.DratKind.{DratKind}
+use Rattle.sat_formula.specs.declared.stop.Stop.{Stop}
 use Rattle.lrat_text.specs.Texts.{Outcome, Faulty, with_line}
 use Rattle.lrat_text.specs.declared.row.Head.{Head}
 use Rattle.lrat_binary.specs.declared.draft.Draft.{Draft}
@@ -30,21 +31,21 @@ goes_on ids before d more = elim d [
 
 -- a line was begun by its letter
 abbrev pub ReadsLetter : {R X : Type 0} → Ids → ℕ → Draft → Option (List ℕ) → Option (List ℕ) →
-    (List ℕ → Outcome) → Source R → Result X Stop → Type 0
+    (List ℕ → Outcome) → Source R → Result X (Stop DratKind) → Type 0
 ReadsLetter ids before d old new f source (Ok x) =
     Leads old new f (outcome_at ids before (Within (slot_of d)))
 ReadsLetter ids before d old new f source (Err stop) = Stopped ids before old new f source stop
 
 -- a number was read
 abbrev pub ReadsCode : {R : Type 0} → Ids → ℕ → Slot → Option (List ℕ) → Option (List ℕ) →
-    (List ℕ → Outcome) → Source R → Result ℕ Stop → Type 0
+    (List ℕ → Outcome) → Source R → Result ℕ (Stop DratKind) → Type 0
 ReadsCode ids before slot old new f source (Ok v) =
     Leads old new f (goes_on ids before (said ids slot v))
 ReadsCode ids before slot old new f source (Err stop) = Stopped ids before old new f source stop
 
 -- a line was read into this draft
 abbrev pub ReadsLine : {R : Type 0} → Ids → ℕ → Draft → Option (List ℕ) → Option (List ℕ) →
-    (List ℕ → Outcome) → Source R → Result Head Stop → Type 0
+    (List ℕ → Outcome) → Source R → Result Head (Stop DratKind) → Type 0
 ReadsLine ids before d old new f source (Ok head) =
     Leads old new f (line_then ids before (line_of d head))
 ReadsLine ids before d old new f source (Err stop) = Stopped ids before old new f source stop

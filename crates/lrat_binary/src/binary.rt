@@ -8,10 +8,11 @@ ghost use Rattle.lrat_binary.specs.Reading.{ReadsLine};
 
 use crate::draft::Draft;
 use crate::ids::Ids;
+use drat_text::DratKind;
 use drat_text::bytes::Bytes;
 use drat_text::code::read_code;
-use drat_text::fault::Stop;
 use lrat_text::row::Head;
+use sat_formula::stop::Stop;
 use std::io::Read;
 
 /// The weight of the ninth byte of a number, which is its last.
@@ -22,7 +23,7 @@ pub(crate) fn read_line<R: Read>(
     bytes: &mut Bytes<R>,
     ids: Ids,
     draft: &mut Draft,
-) -> Result<Head, Stop>
+) -> Result<Head, Stop<DratKind>>
     ensures read { (before : ℕ) → ReadsLine ids before draft.new
         (unread_bytes R.remaining bytes.old) (unread_bytes R.remaining bytes.new)
         (binary_after ids before) (source_of bytes.new) result }
@@ -35,7 +36,11 @@ pub(crate) fn read_line<R: Read>(
 }
 
 /// Reads numbers to the end of the line. Returns its head.
-fn read_numbers<R: Read>(bytes: &mut Bytes<R>, ids: Ids, draft: &mut Draft) -> Result<Head, Stop>
+fn read_numbers<R: Read>(
+    bytes: &mut Bytes<R>,
+    ids: Ids,
+    draft: &mut Draft,
+) -> Result<Head, Stop<DratKind>>
     ensures read { (before : ℕ) → ReadsLine ids before draft.new
         (unread_bytes R.remaining bytes.old) (unread_bytes R.remaining bytes.new)
         (outcome_at ids before (Within (slot_of draft.old))) (source_of bytes.new) result }

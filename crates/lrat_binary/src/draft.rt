@@ -9,9 +9,9 @@ ghost use Rattle.lrat_text.specs.NextLine.{view};
 use crate::ids::Ids;
 use crate::number::{hint_said, id_said, lit_said};
 use drat_text::DratKind;
-use drat_text::fault::Stop;
 use lrat_text::LratLine;
 use lrat_text::row::{Head, Row};
+use sat_formula::stop::Stop;
 use std::alloc::Global;
 
 /// The kind of the next number of a line.
@@ -44,7 +44,7 @@ impl Draft {
     }
 
     /// Begins a line by its letter, in place of the line before.
-    pub(crate) fn begin(&mut self, letter: u8) -> Result<(), Stop>
+    pub(crate) fn begin(&mut self, letter: u8) -> Result<(), Stop<DratKind>>
         ensures { BeginsLine self.new (begun letter) result }
     {
         match letter {
@@ -60,7 +60,7 @@ impl Draft {
 
     /// Adds the next number. Returns the line's head if the number ends it.
     #[inline(always)]
-    pub(crate) fn take(&mut self, ids: Ids, number: u64) -> Result<Option<Head>, Stop>
+    pub(crate) fn take(&mut self, ids: Ids, number: u64) -> Result<Option<Head>, Stop<DratKind>>
         ensures { TakesNumber self.new (said ids (slot_of self.old) number) result }
     {
         match self.due {
@@ -72,7 +72,7 @@ impl Draft {
     }
 
     /// Adds the id of a clause.
-    fn take_id(&mut self, ids: Ids, number: u64) -> Result<Option<Head>, Stop>
+    fn take_id(&mut self, ids: Ids, number: u64) -> Result<Option<Head>, Stop<DratKind>>
         requires { self.old.due ≡ dues.Id }
         ensures { TakesNumber self.new (said ids (slot_of self.old) number) result }
     {
@@ -89,7 +89,7 @@ impl Draft {
 
     /// Adds a literal of a clause, or the 0 after the last.
     #[inline(always)]
-    fn take_lit(&mut self, id: u64, ids: Ids, number: u64) -> Result<Option<Head>, Stop>
+    fn take_lit(&mut self, id: u64, ids: Ids, number: u64) -> Result<Option<Head>, Stop<DratKind>>
         requires { self.old.due ≡ dues.Lit id }
         ensures { TakesNumber self.new (said ids (slot_of self.old) number) result }
     {
@@ -109,7 +109,7 @@ impl Draft {
 
     /// Adds a hint, or the 0 after the last.
     #[inline(always)]
-    fn take_hint(&mut self, id: u64, number: u64) -> Result<Option<Head>, Stop>
+    fn take_hint(&mut self, id: u64, number: u64) -> Result<Option<Head>, Stop<DratKind>>
         requires { self.old.due ≡ dues.Hint id }
         ensures { (ids : Ids) → TakesNumber self.new (said ids (slot_of self.old) number) result }
     {
@@ -124,7 +124,7 @@ impl Draft {
     }
 
     /// Adds an id that is deleted, or the 0 after the last.
-    fn take_deleted(&mut self, ids: Ids, number: u64) -> Result<Option<Head>, Stop>
+    fn take_deleted(&mut self, ids: Ids, number: u64) -> Result<Option<Head>, Stop<DratKind>>
         requires { self.old.due ≡ dues.Deleted }
         ensures { TakesNumber self.new (said ids (slot_of self.old) number) result }
     {

@@ -7,10 +7,11 @@ use crate::binary::read_line;
 use crate::draft::Draft;
 use crate::fault::line_kind;
 use crate::ids::Ids;
+use drat_text::DratKind;
 use drat_text::bytes::Bytes;
-use drat_text::fault::Stop;
 use lrat_text::row::Head;
 use lrat_text::{LratLine, LratTextFault};
+use sat_formula::stop::Stop;
 use std::alloc::Global;
 use std::io::Read;
 
@@ -115,7 +116,7 @@ impl<R: Read> BinaryReader<R> {
     }
 
     /// Ends the reader, and returns the fault of a stop, or `None` for the end.
-    fn stopped(&mut self, stop: Stop) -> Result<Option<Head>, LratTextFault>
+    fn stopped(&mut self, stop: Stop<DratKind>) -> Result<Option<Head>, LratTextFault>
         requires { stop ≡ Stop.Read → IsStopped (source_of self.old.bytes) }
         ensures explains { Explains (source_of self.old.bytes) (line_number self.old) stop result }
         ensures bytes { self.new.bytes ≡ self.old.bytes }

@@ -12,8 +12,8 @@ use Rattle.lrat_text.specs.declared.fault.LineKind.{LineKind}
 use Rattle.lrat_text.specs.declared.fault.LineKind.TheVariants.{Malformed, Unfinished}
 use Rattle.lrat_text.specs.declared.fault.LratTextFault.{LratTextFault}
 use Rattle.lrat_text.specs.declared.fault.LratTextFault.TheVariants as faults
-use Rattle.lrat_text.specs.declared.fault.Stop.{Stop}
-use Rattle.lrat_text.specs.declared.fault.Stop.TheVariants as stops
+use Rattle.sat_formula.specs.declared.stop.Stop.{Stop}
+use Rattle.sat_formula.specs.declared.stop.Stop.TheVariants as stops
 use Rattle.lrat_text.specs.declared.line.LratLine.{LratLine}
 use Rattle.lrat_text.specs.declared.reader.LineReader.{LineReader}
 use Rattle.lrat_text.specs.declared.row.Head.{Head}
@@ -42,9 +42,10 @@ holds_open a b source line true p = p.0
 holds_open a b source line false p = p.0
 
 module _ {R : Type 0} (remaining : R → Option (List ℕ)) (old new : LineReader R) (line : List ℕ) where
-  pub line_judged : (whole : Bool) (r : Result (Option Head) Stop) → HoldsLine (bytes_left remaining old) (bytes_left remaining new) new.lines.source line (Ok whole)
+  pub line_judged : (whole : Bool) (r : Result (Option Head) (Stop LineKind)) → HoldsLine (bytes_left remaining old) (bytes_left remaining new) new.lines.source line (Ok whole)
       → line_number new ≡ next_line (line_number old) → has_ended new ≡ not whole → ReadsAs (line_if new.row) (says (short_for whole) (words_of line)) r → JudgesLine remaining old new r
   line_judged whole (Ok head) p number over said = rw (number, over) (rw said at (held _ _ (line_number old) new.lines.source line whole p))
+  line_judged whole (Err stops.End) p number over said = absurd said
   line_judged whole (Err (stops.Wrong kind)) p number over said = rw number (not whole, rw said at (held _ _ (line_number old) new.lines.source line whole p))
   line_judged whole (Err stops.Read) p number over said = absurd said
   line_judged whole (Err stops.OutOfMemory) p number over said = tt
@@ -52,28 +53,31 @@ module _ {R : Type 0} (remaining : R → Option (List ℕ)) (old new : LineReade
 -- ---- what is counted
 
 -- a line of which a byte was taken
-pub counts_line : {R : Type 0} (old new : LineReader R) → CountsBytes old new → (r : Result (Option Head) Stop) → CountsLine old new r
+pub counts_line : {R : Type 0} (old new : LineReader R) → CountsBytes old new → (r : Result (Option Head) (Stop LineKind)) → CountsLine old new r
 counts_line old new c (Ok None) = λ open_still. c
 counts_line old new c (Ok (Some head)) = c
+counts_line old new c (Err stops.End) = c
 counts_line old new c (Err (stops.Wrong kind)) = c
 counts_line old new c (Err stops.Read) = tt
 counts_line old new c (Err stops.OutOfMemory) = tt
 
 -- a line that says something has a byte
-pub held_counts : {R : Type 0} (old new : LineReader R) (line : List ℕ) (whole : Bool) (r : Result (Option Head) Stop) → line_number new ≡ next_line (line_number old)
+pub held_counts : {R : Type 0} (old new : LineReader R) (line : List ℕ) (whole : Bool) (r : Result (Option Head) (Stop LineKind)) → line_number new ≡ next_line (line_number old)
     → has_ended new ≡ not whole → (whole ≡ true → room_left new < room_left old) → room_left new + length line ≤ room_left old
     → ReadsAs (line_if new.row) (says (short_for whole) (words_of line)) r → CountsLine old new r
 held_counts old new line true r number over nearer taken said = counts_line old new (let less = nearer refl in omega arith) r
 held_counts old new (b ∷ line) false r number over nearer taken said = counts_line old new (omega arith) r
 held_counts old new [] false (Ok None) number over nearer taken said = λ open_still. absurd (true≢false (sym over ∙ open_still))
+held_counts old new [] false (Err stops.End) number over nearer taken said = absurd said
 held_counts old new [] false (Err stops.OutOfMemory) number over nearer taken said = tt
 held_counts old new [] false r number over nearer taken said = absurd (grind arith)
 
 pub counts_on : {R : Type 0} (old now new : LineReader R) → CountsBytes old now → CountsBytes now new → CountsBytes old new
 counts_on old now new p q = omega arith
 
-pub stop_counts : {R : Type 0} (old now new last : LineReader R) (stop : Stop) (fault : LratTextFault) → CountsBytes old now → CountsLine now new (Err stop)
+pub stop_counts : {R : Type 0} (old now new last : LineReader R) (stop : Stop LineKind) (fault : LratTextFault) → CountsBytes old now → CountsLine now new (Err stop)
     → Explains new.lines.source new.number stop fault → last ≡ record new { ended = true } → Counts {R = R} {X = Head} old last (Err fault)
+stop_counts old now new last stops.End fault p q e is = rw (e, is) (counts_on old now new p q)
 stop_counts old now new last (stops.Wrong kind) fault p q e is = rw (e, is) (counts_on old now new p q)
 stop_counts old now new last stops.Read (faults.Read e) p q told is = tt
 stop_counts old now new last stops.Read fault p q told is = absurd told
@@ -91,8 +95,9 @@ module _ {R : Type 0} (remaining : R → Option (List ℕ)) (old now new : LineR
   line_given head p q less = (continues_on (bytes_left remaining new) (has_ended new) _ p q, less)
 
   -- nothing is read after a stop
-  pub stop_told : (last : LineReader R) (stop : Stop) (fault : LratTextFault) → Reads remaining old now false (rest_of now) → JudgesLine remaining now new (Err stop)
+  pub stop_told : (last : LineReader R) (stop : Stop LineKind) (fault : LratTextFault) → Reads remaining old now false (rest_of now) → JudgesLine remaining now new (Err stop)
       → Explains new.lines.source new.number stop fault → last ≡ record new { ended = true } → Answers remaining (line_of last.row) old last (Err fault)
+  stop_told last stops.End fault p q e is = absurd q
   stop_told last (stops.Wrong kind) fault p q e is =
       rw (e, is) (refl, (q.0, continues_on (bytes_left remaining new) q.0 _ p q.1), refl)
   stop_told last stops.Read (faults.Read e) p q told is = rw is (breaks_on p q.0, told, refl)

@@ -9,10 +9,11 @@ use Rattle.sat_formula.specs.declared.source.Source.{Source}
 use Rattle.sat_formula.specs.Source.{IsErrorOf, IsStopped}
 use Rattle.lrat_rules.specs.Lines.{Line, adds, deletes}
 use Rattle.lrat_text.specs.declared.fault.LineKind.{LineKind}
+use Rattle.lrat_text.specs.declared.fault.LineKind.TheVariants.{Unfinished}
 use Rattle.lrat_text.specs.declared.fault.LratTextFault.{LratTextFault}
 use Rattle.lrat_text.specs.declared.fault.LratTextFault.TheVariants as faults
-use Rattle.lrat_text.specs.declared.fault.Stop.{Stop}
-use Rattle.lrat_text.specs.declared.fault.Stop.TheVariants as stops
+use Rattle.sat_formula.specs.declared.stop.Stop.{Stop}
+use Rattle.sat_formula.specs.declared.stop.Stop.TheVariants as stops
 use Rattle.lrat_text.specs.declared.line.LratLine.{LratLine}
 use Rattle.lrat_text.specs.declared.line.LratLine.TheVariants as lines
 use Rattle.lrat_text.specs.declared.reader.LineReader.{LineReader}
@@ -99,11 +100,12 @@ Counts old new (Err faults.OutOfMemory) = Unit {0}
 
 -- and for a line that says nothing, unless it is the last, which may have no byte
 abbrev pub CountsLine : {R : Type 0} → LineReader R → LineReader R →
-    Result (Option Head) Stop → Type 0
+    Result (Option Head) (Stop LineKind) → Type 0
 CountsLine old new (Ok (Some head)) = CountsBytes old new
 CountsLine old new (Ok None) = has_ended new ≡ false → CountsBytes old new
-CountsLine old new (Err (stops.Wrong kind)) = CountsBytes old new
+CountsLine old new (Err stops.End) = CountsBytes old new
 CountsLine old new (Err stops.Read) = Unit {0}
+CountsLine old new (Err (stops.Wrong kind)) = CountsBytes old new
 CountsLine old new (Err stops.OutOfMemory) = Unit {0}
 
 -- the call gave the next line, the end or the fault of the text; after the end or a fault it gives none and stays as it is
@@ -115,18 +117,20 @@ pub record Gives {R : Type 0} (remaining : R → Option (List ℕ)) (old new : L
 
 -- what reading one line answered
 abbrev pub JudgesLine : {R : Type 0} → (R → Option (List ℕ)) → LineReader R → LineReader R →
-    Result (Option Head) Stop → Type 0
+    Result (Option Head) (Stop LineKind) → Type 0
 JudgesLine remaining old new (Ok head) =
     Reads remaining old new (has_ended new)
     (λ more. line_then (line_number new) (Ok (line_if new.row head)) (rest_of new more))
-JudgesLine remaining old new (Err (stops.Wrong kind)) = ReadsFault remaining old new kind
+JudgesLine remaining old new (Err stops.End) = ⊥
 JudgesLine remaining old new (Err stops.Read) =
     Breaks (bytes_left remaining old) (bytes_left remaining new) (line_number old) (line_number new)
     × IsStopped new.lines.source
+JudgesLine remaining old new (Err (stops.Wrong kind)) = ReadsFault remaining old new kind
 JudgesLine remaining old new (Err stops.OutOfMemory) = Unit {0}
 
--- the fault of a stop, with this source, on this line
-abbrev pub Explains : {R : Type 0} → Source R → ℕ → Stop → LratTextFault → Type 0
+-- the fault of a stop, with this source, on this line; where the text ends there, the line is unfinished
+abbrev pub Explains : {R : Type 0} → Source R → ℕ → Stop LineKind → LratTextFault → Type 0
+Explains source line stops.End fault = fault ≡ faults.Line line Unfinished
 Explains source line stops.Read (faults.Read e) = IsErrorOf source e
 Explains source line stops.Read (faults.Line number kind) = ⊥
 Explains source line stops.Read faults.OutOfMemory = ⊥

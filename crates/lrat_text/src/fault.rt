@@ -1,8 +1,8 @@
 //! Why a line could not be read.
 ghost use Rattle.std.specs.Prelude.{◌≡◌};
-ghost use Rattle.lrat_text.specs.declared.fault.Stop.TheVariants as stops;
+ghost use Rattle.sat_formula.specs.declared.stop.Stop.TheVariants as stops;
 
-use std::alloc::AllocFailed;
+use sat_formula::stop::Stop;
 use std::io;
 use thiserror::Error;
 
@@ -35,26 +35,10 @@ pub enum LratTextFault {
     OutOfMemory,
 }
 
-/// Why reading stops. It is small, since it passes through the loops over words.
-#[derive(Clone, Copy)]
-pub(crate) enum Stop {
-    Read,
-    Wrong(LineKind),
-    OutOfMemory,
-}
-
-impl From<LineKind> for Stop {
+impl From<LineKind> for Stop<LineKind> {
     ghost from_gives = { λ kind stop. stop ≡ stops.Wrong kind };
 
-    fn from(kind: LineKind) -> Stop {
+    fn from(kind: LineKind) -> Stop<LineKind> {
         Stop::Wrong(kind)
-    }
-}
-
-impl<T: Drop> From<AllocFailed<T>> for Stop {
-    ghost from_gives = { λ _ stop. stop ≡ stops.OutOfMemory };
-
-    fn from(_e: AllocFailed<T>) -> Stop {
-        Stop::OutOfMemory
     }
 }

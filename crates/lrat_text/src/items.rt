@@ -6,10 +6,11 @@ ghost use Rattle.lrat_text.specs.Bytes.{IsLine, words_in};
 ghost use Rattle.lrat_text.specs.Items.{lit_said, hint_said, id_said, items_at};
 ghost use Rattle.lrat_text.specs.Reading.{ReadsAs};
 
-use crate::fault::{LineKind, Stop};
+use crate::fault::LineKind;
 use crate::line::Hint;
 use crate::number::{Number, any_number, short_number};
 use sat_formula::Lit;
+use sat_formula::stop::Stop;
 
 /// What is in a list, by the number that says it.
 pub(crate) trait Item: Copy {
@@ -81,7 +82,7 @@ pub(crate) fn read_items<'a, T: Item>(
     bytes: &'a [u8],
     short: LineKind,
     into: &mut Vec<T>,
-) -> Result<&'a [u8], Stop>
+) -> Result<&'a [u8], Stop<LineKind>>
     requires { IsLine bytes.now }
     ensures read { ReadsAs (λ rest. (into.new.items, words_in rest.now))
         (items_at T.said short (words_in bytes.now)) result }

@@ -4,9 +4,10 @@ ghost use Rattle.std.specs.Io.KnownBytes.{Consumes};
 ghost use Rattle.sat_formula.specs.Source.{is_limited};
 ghost use Rattle.lrat_text.specs.Bytes.{IsLine};
 
-use crate::fault::Stop;
+use crate::fault::LineKind;
 use memchr::memchr;
 use sat_formula::source::{NoByte, Source};
+use sat_formula::stop::Stop;
 use std::alloc::Global;
 use std::io;
 use std::io::Read;
@@ -77,7 +78,7 @@ impl<R: Read> Lines<R> {
     }
 
     /// Takes the next line, keeps it without its LF, and returns whether an LF ended it.
-    pub(crate) fn hold(&mut self) -> Result<bool, Stop>
+    pub(crate) fn hold(&mut self) -> Result<bool, Stop<LineKind>>
         ensures line { let old = unread_lines R.remaining self.old in
             let new = unread_lines R.remaining self.new in
             HoldsLine old new self.new.source self.new.held.items result }
@@ -99,7 +100,7 @@ impl<R: Read> Lines<R> {
     }
 
     /// Appends an LF to the last line that was taken, whether it had one or not.
-    pub(crate) fn end_held(&mut self) -> Result<(), Stop>
+    pub(crate) fn end_held(&mut self) -> Result<(), Stop<LineKind>>
         ensures source { self.new.source ≡ self.old.source }
         ensures ok { OnOk result (self.new.held.items ≡ self.old.held.items ++ 10 ∷ []) }
         ensures err { IfErr result (λ stop. stop ≡ Stop.OutOfMemory) }

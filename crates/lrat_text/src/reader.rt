@@ -3,10 +3,11 @@ ghost use Rattle.std.specs.Prelude.{◌≡◌, ◌-◌, ◌^◌, ◌<◌, Ok, No
 ghost use Rattle.std.specs.Io.BufRead.{Rests};
 ghost use types.Logic.{sem};
 
-use crate::fault::{LineKind, LratTextFault, Stop};
+use crate::fault::{LineKind, LratTextFault};
 use crate::line::LratLine;
 use crate::lines::Lines;
 use crate::row::{Head, Row};
+use sat_formula::stop::Stop;
 use std::alloc::Global;
 use std::io::Read;
 
@@ -94,7 +95,7 @@ impl<R: Read> LineReader<R> {
     }
 
     /// Reads one line.
-    fn one_line(&mut self) -> Result<Option<Head>, Stop>
+    fn one_line(&mut self) -> Result<Option<Head>, Stop<LineKind>>
         ensures judged { JudgesLine R.remaining self.old self.new result }
         ensures counts { CountsLine self.old self.new result }
         ensures nearer { has_ended self.old ≡ false → IsOk result
@@ -111,7 +112,7 @@ impl<R: Read> LineReader<R> {
     }
 
     /// Reads a line that was not read ahead whole.
-    fn held_line(&mut self) -> Result<Option<Head>, Stop>
+    fn held_line(&mut self) -> Result<Option<Head>, Stop<LineKind>>
         ensures judged { JudgesLine R.remaining self.old self.new result }
         ensures counts { CountsLine self.old self.new result }
         ensures nearer { has_ended self.old ≡ false → IsOk result
@@ -140,19 +141,26 @@ impl<R: Read> LineReader<R> {
     }
 
     /// Ends, and returns the fault of a stop.
-    fn stopped(&mut self, stop: Stop) -> LratTextFault
+    fn stopped(&mut self, stop: Stop<LineKind>) -> LratTextFault
         requires { stop ≡ Stop.Read → IsStopped self.old.lines.source }
         ensures fault { Explains self.old.lines.source self.old.number stop result }
         ensures new { self.new ≡ record self.old { ended = true } }
     {
         self.ended = true;
         match stop {
+            Stop::End => self.faulty(LineKind::Unfinished),
             Stop::Read => LratTextFault::Read(self.lines.error()),
-            Stop::Wrong(kind) => LratTextFault::Line {
-                line: self.number,
-                kind,
-            },
+            Stop::Wrong(kind) => self.faulty(kind),
             Stop::OutOfMemory => LratTextFault::OutOfMemory,
+        }
+    }
+
+    fn faulty(&self, kind: LineKind) -> LratTextFault
+        ensures { result ≡ LratTextFault.Line self.now.number kind }
+    {
+        LratTextFault::Line {
+            line: self.number,
+            kind,
         }
     }
 }

@@ -4,12 +4,13 @@ ghost use Rattle.lrat_rules.specs.Lines.{Line};
 ghost use Rattle.lrat_text.specs.Bytes.{IsLine, words_in};
 ghost use Rattle.lrat_text.specs.Grammar.{alone};
 
-use crate::fault::{LineKind, Stop};
+use crate::fault::LineKind;
 use crate::items::read_items;
 use crate::line::{Hint, LratLine};
 use crate::number::split_number;
 use crate::words::{skip_blanks, split_word};
 use sat_formula::Lit;
+use sat_formula::stop::Stop;
 use std::alloc::Global;
 
 /// A line without its lists.
@@ -57,7 +58,11 @@ impl Row {
 
     /// Reads a line of these bytes, and returns its kind, or `None` if it is blank. `short` is the
     /// fault of a line that ends before its last 0.
-    pub(crate) fn read(&mut self, bytes: &[u8], short: LineKind) -> Result<Option<Head>, Stop>
+    pub(crate) fn read(
+        &mut self,
+        bytes: &[u8],
+        short: LineKind,
+    ) -> Result<Option<Head>, Stop<LineKind>>
         requires { IsLine bytes.now }
         ensures { ReadsAs (line_if self.new) (says short (words_in bytes.now)) result }
     {
@@ -73,7 +78,7 @@ impl Row {
         Ok(Some(head))
     }
 
-    fn after_id(&mut self, bytes: &[u8], short: LineKind, id: u64) -> Result<Head, Stop>
+    fn after_id(&mut self, bytes: &[u8], short: LineKind, id: u64) -> Result<Head, Stop<LineKind>>
         requires { IsLine bytes.now }
         ensures { ReadsAs (line_of self.new) (after_id short id (words_in bytes.now)) result }
     {
@@ -86,7 +91,7 @@ impl Row {
     }
 
     /// Reads what follows an id, by its first word.
-    fn after_word(&mut self, bytes: &[u8], short: LineKind, id: u64) -> Result<Head, Stop>
+    fn after_word(&mut self, bytes: &[u8], short: LineKind, id: u64) -> Result<Head, Stop<LineKind>>
         requires { IsLine bytes.now }
         ensures { ReadsAs (line_of self.new) (after_id short id (words_in bytes.now)) result }
     {
@@ -102,7 +107,7 @@ impl Row {
         self.clause(bytes, short, id)
     }
 
-    fn deletion(&mut self, bytes: &[u8], short: LineKind) -> Result<Head, Stop>
+    fn deletion(&mut self, bytes: &[u8], short: LineKind) -> Result<Head, Stop<LineKind>>
         requires { IsLine bytes.now }
         ensures { ReadsAs (line_of self.new) (deletion_at short (words_in bytes.now)) result }
     {
@@ -111,7 +116,7 @@ impl Row {
         Ok(Head::Delete)
     }
 
-    fn clause(&mut self, bytes: &[u8], short: LineKind, id: u64) -> Result<Head, Stop>
+    fn clause(&mut self, bytes: &[u8], short: LineKind, id: u64) -> Result<Head, Stop<LineKind>>
         requires { IsLine bytes.now }
         ensures { ReadsAs (line_of self.new) (clause_at short id (words_in bytes.now)) result }
     {

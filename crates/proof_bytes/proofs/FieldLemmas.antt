@@ -3,8 +3,9 @@ use Rattle.std.proofs.Common.{◌≡◌, ℕ, zero, suc, ◌+◌, ◌-◌, ◌^�
 use Rattle.std.proofs.lemmas.Bool.{lt-ltb, le-ltb}
 use Rattle.std.specs.Prelude.{SomeIff, Option, Some, None, ok_or, if◌then◌else◌, nat_lt}
 use Rattle.proof_bytes.specs.declared.fault.MalformedStep.TheVariants.{OutOfRange}
-use Rattle.proof_bytes.specs.declared.fault.Stop.{Stop}
-use Rattle.proof_bytes.specs.declared.fault.Stop.TheVariants as faults
+use Rattle.proof_bytes.specs.declared.fault.MalformedStep.{MalformedStep}
+use Rattle.sat_formula.specs.declared.stop.Stop.{Stop}
+use Rattle.sat_formula.specs.declared.stop.Stop.TheVariants as stops
 use Rattle.proof_bytes.specs.Reading.{Wrong, Found, ◌>>=◌, number_at}
 use Rattle.proof_bytes.specs.Fields.{below_at, named, justified, made_at, pair_at, many_at, list_at}
 use Rattle.checker_rules.specs.Step.{by_simplified}
@@ -16,7 +17,7 @@ use Rattle.proof_bytes.proofs.Leading.{Known, leads_bind, leads_same, then_leads
 abbrev pub in_range : ℕ → ℕ × List ℕ → Found ℕ
 in_range limit n = if nat_lt n.0 limit then Ok (n.0, n.1) else Err (Wrong OutOfRange)
 
-pub below_fails : {a b : Known} {e : Stop} (limit : ℕ) → Faults a b e number_at → Faults a b e (below_at limit)
+pub below_fails : {a b : Known} {e : Stop MalformedStep} (limit : ℕ) → Faults a b e number_at → Faults a b e (below_at limit)
 unfolding below_at
 below_fails limit p = faults_bind (in_range limit) p
 
@@ -32,18 +33,18 @@ module _ {a b : Known} (limit n : ℕ) (read : Leads a b number_at (λ more. Ok 
   pub below_ok : n < limit → Leads a b (below_at limit) (λ more. Ok (n, more))
   below_ok lt = leads_same _ below (λ more. ap (λ c. cond c (Ok (n, more)) (Err (Wrong OutOfRange))) (lt-ltb n limit lt))
 
-  pub below_wrong : limit ≤ n → Faults a b (faults.Malformed OutOfRange) (below_at limit)
+  pub below_wrong : limit ≤ n → Faults a b (stops.Wrong OutOfRange) (below_at limit)
   below_wrong le = wrong OutOfRange (leads_same _ below (λ more. ap (λ c. cond c (Ok (n, more)) (Err (Wrong OutOfRange))) (le-ltb n limit le)))
 
   -- what is made of such numbers alone
   pub below_or : {X : Type 0} (P : Type 0) (seen : X → ℕ) (shown : Option X → Option ℕ) → shown None ≡ None → ((x : X) → shown (Some x) ≡ Some (seen x)) →
-      (made : Option X) → SomeIff (shown made) (n < limit) n → ReadsOr P seen a b (ok_or made (faults.Malformed OutOfRange)) (below_at limit)
+      (made : Option X) → SomeIff (shown made) (n < limit) n → ReadsOr P seen a b (ok_or made (stops.Wrong OutOfRange)) (below_at limit)
   below_or P seen shown none some None h = malformed (below_wrong (omega (arith, rw none at h)))
   below_or P seen shown none some (Some x) h = let p = rw (some x) at h in rw p.1 (below_ok p.0)
 
 -- ---- a field seen otherwise, and a pair
 
-pub made_fails : {A B : Type 0} {a b : Known} {e : Stop} (item : List ℕ → Found A) (make : A → B) → Faults a b e item → Faults a b e (made_at item make)
+pub made_fails : {A B : Type 0} {a b : Known} {e : Stop MalformedStep} (item : List ℕ → Found A) (make : A → B) → Faults a b e item → Faults a b e (made_at item make)
 unfolding made_at
 made_fails item make p = faults_bind (λ x. Ok (make x.0, x.1)) p
 
@@ -66,7 +67,7 @@ abbrev second_of : {A B : Type 0} → (List ℕ → Found B) → A × List ℕ �
 second_of g x = g x.1 >>= λ y. Ok ((x.0, y.0), y.1)
 
 module _ {A B : Type 0} {a b : Known} (f : List ℕ → Found A) (g : List ℕ → Found B) where
-  pub pair_fails : {e : Stop} → Faults a b e f → Faults a b e (pair_at f g)
+  pub pair_fails : {e : Stop MalformedStep} → Faults a b e f → Faults a b e (pair_at f g)
   unfolding pair_at
   pair_fails p = faults_bind (second_of g) p
 
@@ -75,7 +76,7 @@ module _ {A B : Type 0} {a b : Known} (f : List ℕ → Found A) (g : List ℕ �
     unfolding pair_at
     first_read = leads_bind (second_of g) read
 
-    pub second_fails : {c : Known} {e : Stop} → Faults b c e g → Faults a c e (pair_at f g)
+    pub second_fails : {c : Known} {e : Stop MalformedStep} → Faults b c e g → Faults a c e (pair_at f g)
     second_fails p = then_faults (λ y. Ok ((x, y.0), y.1)) first_read p
 
     pub pair_read : {c : Known} {y : B} → Leads b c g (λ more. Ok (y, more)) → Leads a c (pair_at f g) (λ more. Ok ((x, y), more))
@@ -93,7 +94,7 @@ after_item item n first = many_at item n first.1 >>= λ others. Ok (first.0 ∷ 
 abbrev after_front : {A : Type 0} → List A → (List ℕ → Found A) → ℕ → A × List ℕ → Found (List A)
 after_front front item n first = with_front front (after_item item n first)
 
-pub list_fails : {A : Type 0} {a b : Known} {e : Stop} (item : List ℕ → Found A) → Faults a b e number_at → Faults a b e (list_at item)
+pub list_fails : {A : Type 0} {a b : Known} {e : Stop MalformedStep} (item : List ℕ → Found A) → Faults a b e number_at → Faults a b e (list_at item)
 unfolding list_at
 list_fails item p = faults_bind (λ n. many_at item n.0 n.1) p
 
@@ -122,7 +123,7 @@ module _ {A : Type 0} {a b : Known} (f : List ℕ → Found (List A)) (item : Li
       let is : count - i ≡ suc (count - (i + 1)) = omega arith in
       leads_same _ so_far (λ more. ap (λ m. with_front front (many_at item m more)) is ∙ front_of_bind front (item more) (after_item item (count - (i + 1))))
 
-  pub item_fails : {c : Known} {e : Stop} → Faults b c e item → Faults a c e f
+  pub item_fails : {c : Known} {e : Stop MalformedStep} → Faults b c e item → Faults a c e f
   item_fails p = then_faults (after_front front item (count - (i + 1))) next_item p
 
   pub item_read : {c : Known} (x : A) → Leads b c item (λ more. Ok (x, more)) → Leads a c f (λ more. with_front (front ++ x ∷ []) (many_at item (count - (i + 1)) more))

@@ -3,8 +3,8 @@ use Rattle.std.specs.Prelude.{ℕ, Bool, true, List, Option, Result, Ok, Err}
 use Rattle.sat_formula.specs.Vars.{index_of, indexes_of}
 use Rattle.checker_rules.specs.Step.{Step, solver_var_name, user_var_name, delete_var, change_sampling_mode, add_clause, at_clause}
 use Rattle.checker_rules.specs.Step.{delete_clause, unit_clauses, change_hash_bits, model, assumptions, failed_assumptions, end_proof}
-use Rattle.proof_bytes.specs.declared.fault.Stop.{Stop}
-use Rattle.proof_bytes.specs.declared.fault.Stop.{Stop}
+use Rattle.proof_bytes.specs.declared.fault.MalformedStep.{MalformedStep}
+use Rattle.sat_formula.specs.declared.stop.Stop.{Stop}
 use Rattle.proof_bytes.specs.declared.body.BodyReader.{BodyReader}
 use Rattle.proof_bytes.specs.declared.body.Head.{Head}
 use Rattle.proof_bytes.specs.declared.body.Head.TheVariants as heads
@@ -36,7 +36,7 @@ abbrev pub step_of : {R : Type 0} → Head → BodyReader R → Step
 step_of head r = step_with head r.lits.items r.hashes.items r.units.items
 
 -- whether nothing is read after this answer
-abbrev pub is_last : {R : Type 0} → Result Head Stop → BodyReader R → Bool
+abbrev pub is_last : {R : Type 0} → Result Head (Stop MalformedStep) → BodyReader R → Bool
 is_last (Ok head) r = is_end (step_of head r)
 is_last (Err e) r = true
 
@@ -46,5 +46,5 @@ unread_body remaining r = unread_fields remaining r.fields
 
 -- the call read what f reads, seen so, or stopped where f does
 abbrev pub Fills : {R X A : Type 0} → (R → Option (List ℕ)) → (X → A) → BodyReader R →
-    BodyReader R → Result X Stop → (List ℕ → Found A) → Type 0
+    BodyReader R → Result X (Stop MalformedStep) → (List ℕ → Found A) → Type 0
 Fills remaining seen old new r f = Reads remaining seen old.fields new.fields r f

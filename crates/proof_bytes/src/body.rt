@@ -1,12 +1,13 @@
 //! A step, read into lists.
 ghost use Rattle.std.specs.Prelude.{◌≡◌, ◌^◌, ℕ, Option, IfOk};
 
-use crate::fault::{MalformedStep, ProofFault, Stop};
+use crate::fault::{MalformedStep, ProofFault};
 use crate::fields::Fields;
 use crate::format::Format;
 use crate::hash::ClauseHash;
 use crate::step::{DeleteClauseProof, ProofStep};
 use crate::tag;
+use sat_formula::stop::Stop;
 use sat_formula::{Lit, Var};
 use std::alloc::Global;
 use std::io::Read;
@@ -45,7 +46,7 @@ impl<R: Read> BodyReader<R> {
     ghost use Rattle.proof_bytes.specs.NextStep.{view};
     ghost use Rattle.proof_bytes.specs.Steps.{tag_at, next_at, fields_at, one_field, two_fields, three_fields};
     ghost use Rattle.proof_bytes.specs.Fields.{var_at, name_at, flag_at, justification_at, lits_at, hashes_at, unit_at, list_at, below_at};
-    ghost use Rattle.proof_bytes.specs.Taking.{HasItsError, HasStopped, Reads, stop_of};
+    ghost use Rattle.proof_bytes.specs.Taking.{HasItsError, HasStopped, Reads, stop_behind};
     ghost use Rattle.proof_bytes.specs.Formats.{IsFormat};
 
     /// Returns a reader of fields. Reads nothing yet.
@@ -61,9 +62,9 @@ impl<R: Read> BodyReader<R> {
     }
 
     /// Returns the fault of a stop.
-    pub(crate) fn fault(&self, stop: Stop) -> ProofFault
+    pub(crate) fn fault(&self, stop: Stop<MalformedStep>) -> ProofFault
         requires { stop ≡ Stop.Read → HasStopped self.now.fields }
-        ensures stop { stop_of result ≡ stop }
+        ensures stop { stop_behind result ≡ stop }
         ensures error { HasItsError self.now.fields result }
     {
         self.fields.fault(stop)
@@ -109,7 +110,7 @@ impl<R: Read> BodyReader<R> {
 
     /// Returns the next step of a text in this format, and the format after it.
     #[inline(always)]
-    pub(crate) fn step(&mut self, format: Format) -> Result<(Format, Head), Stop>
+    pub(crate) fn step(&mut self, format: Format) -> Result<(Format, Head), Stop<MalformedStep>>
         requires { IsFormat format }
         ensures read { Fills R.remaining (λ s. (s.0, step_of s.1 self.new)) self.old self.new result
             (next_at format) }
@@ -126,7 +127,7 @@ impl<R: Read> BodyReader<R> {
     /// Returns the next tag, past the mark of a text that begins with it, and the format in force
     /// there.
     #[inline(always)]
-    fn tag(&mut self, format: Format) -> Result<(Format, u8), Stop>
+    fn tag(&mut self, format: Format) -> Result<(Format, u8), Stop<MalformedStep>>
         requires { IsFormat format }
         ensures read { Fills R.remaining (λ t. t) self.old self.new result (tag_at format) }
         ensures in_force { IfOk result (λ t. IsFormat t.0) }
@@ -140,7 +141,7 @@ impl<R: Read> BodyReader<R> {
         }
     }
 
-    fn first_tag(&mut self) -> Result<(Format, u8), Stop>
+    fn first_tag(&mut self) -> Result<(Format, u8), Stop<MalformedStep>>
         ensures read { Fills R.remaining (λ t. t) self.old self.new result (tag_at Format.Start) }
         ensures in_force { IfOk result (λ t. IsFormat t.0) }
     {
@@ -150,7 +151,7 @@ impl<R: Read> BodyReader<R> {
         }
         let second = self.fields.byte()?;
         if second != tag::VERSION {
-            return Err(Stop::Malformed(MalformedStep::UnknownTag));
+            return Err(Stop::Wrong(MalformedStep::UnknownTag));
         }
         let tag = self.fields.byte()?;
         Ok((Format::Bytes { width: 64 }, tag))
@@ -158,7 +159,7 @@ impl<R: Read> BodyReader<R> {
 
     /// Returns what follows a tag.
     #[inline(always)]
-    fn body(&mut self, format: Format, tag: u8) -> Result<Head, Stop>
+    fn body(&mut self, format: Format, tag: u8) -> Result<Head, Stop<MalformedStep>>
         requires { IsFormat format }
         ensures { Fills R.remaining (λ h. step_of h self.new) self.old self.new result
             (fields_at format tag) }
@@ -177,11 +178,11 @@ impl<R: Read> BodyReader<R> {
             tag::ASSUMPTIONS => self.with_lits(Head::Assumptions),
             tag::FAILED_ASSUMPTIONS => self.failed_assumptions(format),
             tag::END => Ok(Head::End),
-            _ => Err(Stop::Malformed(MalformedStep::UnknownTag)),
+            _ => Err(Stop::Wrong(MalformedStep::UnknownTag)),
         }
     }
 
-    fn solver_var_name(&mut self) -> Result<Head, Stop>
+    fn solver_var_name(&mut self) -> Result<Head, Stop<MalformedStep>>
         ensures { Fills R.remaining (λ h. step_of h self.new) self.old self.new result
             (two_fields var_at name_at solver_var_name) }
     {
@@ -189,7 +190,7 @@ impl<R: Read> BodyReader<R> {
         Ok(Head::SolverVarName { global, solver })
     }
 
-    fn user_var_name(&mut self) -> Result<Head, Stop>
+    fn user_var_name(&mut self) -> Result<Head, Stop<MalformedStep>>
         ensures { Fills R.remaining (λ h. step_of h self.new) self.old self.new result
             (two_fields var_at name_at user_var_name) }
     {
@@ -198,7 +199,7 @@ impl<R: Read> BodyReader<R> {
     }
 
     /// Returns a variable and its name, whichever step they make.
-    fn naming(&mut self) -> Result<(Var, Option<Var>), Stop>
+    fn naming(&mut self) -> Result<(Var, Option<Var>), Stop<MalformedStep>>
         ensures { (make : ℕ → Option ℕ → Step) → Fills R.remaining
             (λ names. make (index_of names.0) (indexes_of names.1)) self.old self.new result
             (two_fields var_at name_at make) }
@@ -208,7 +209,7 @@ impl<R: Read> BodyReader<R> {
         Ok((global, name))
     }
 
-    fn delete_var(&mut self) -> Result<Head, Stop>
+    fn delete_var(&mut self) -> Result<Head, Stop<MalformedStep>>
         ensures { Fills R.remaining (λ h. step_of h self.new) self.old self.new result
             (one_field var_at delete_var) }
     {
@@ -216,7 +217,7 @@ impl<R: Read> BodyReader<R> {
         Ok(Head::DeleteVar { var })
     }
 
-    fn change_sampling_mode(&mut self) -> Result<Head, Stop>
+    fn change_sampling_mode(&mut self) -> Result<Head, Stop<MalformedStep>>
         ensures { Fills R.remaining (λ h. step_of h self.new) self.old self.new result
             (two_fields var_at flag_at change_sampling_mode) }
     {
@@ -226,7 +227,7 @@ impl<R: Read> BodyReader<R> {
     }
 
     #[inline(always)]
-    fn at_clause(&mut self, format: Format) -> Result<Head, Stop>
+    fn at_clause(&mut self, format: Format) -> Result<Head, Stop<MalformedStep>>
         requires { IsFormat format }
         ensures { Fills R.remaining (λ h. step_of h self.new) self.old self.new result
             (three_fields flag_at lits_at (hashes_at format) at_clause) }
@@ -237,7 +238,7 @@ impl<R: Read> BodyReader<R> {
     }
 
     #[inline(always)]
-    fn delete_clause(&mut self) -> Result<Head, Stop>
+    fn delete_clause(&mut self) -> Result<Head, Stop<MalformedStep>>
         ensures { Fills R.remaining (λ h. step_of h self.new) self.old self.new result
             (two_fields justification_at lits_at delete_clause) }
     {
@@ -245,7 +246,7 @@ impl<R: Read> BodyReader<R> {
         self.with_lits(Head::DeleteClause { proof })
     }
 
-    fn unit_clauses(&mut self, format: Format) -> Result<Head, Stop>
+    fn unit_clauses(&mut self, format: Format) -> Result<Head, Stop<MalformedStep>>
         requires { IsFormat format }
         ensures { Fills R.remaining (λ h. step_of h self.new) self.old self.new result
             (one_field (list_at (unit_at format)) unit_clauses) }
@@ -254,7 +255,7 @@ impl<R: Read> BodyReader<R> {
         Ok(Head::UnitClauses)
     }
 
-    fn change_hash_bits(&mut self) -> Result<Head, Stop>
+    fn change_hash_bits(&mut self) -> Result<Head, Stop<MalformedStep>>
         ensures { Fills R.remaining (λ h. step_of h self.new) self.old self.new result
             (one_field (below_at (2 ^ 32)) change_hash_bits) }
     {
@@ -262,7 +263,7 @@ impl<R: Read> BodyReader<R> {
         Ok(Head::ChangeHashBits { bits: bits as u32 })
     }
 
-    fn failed_assumptions(&mut self, format: Format) -> Result<Head, Stop>
+    fn failed_assumptions(&mut self, format: Format) -> Result<Head, Stop<MalformedStep>>
         requires { IsFormat format }
         ensures { Fills R.remaining (λ h. step_of h self.new) self.old self.new result
             (two_fields lits_at (hashes_at format) failed_assumptions) }
@@ -273,7 +274,7 @@ impl<R: Read> BodyReader<R> {
 
     /// Reads the literals that end the step of this head.
     #[inline(always)]
-    fn with_lits(&mut self, head: Head) -> Result<Head, Stop>
+    fn with_lits(&mut self, head: Head) -> Result<Head, Stop<MalformedStep>>
         ensures { Fills R.remaining (λ h. step_of h self.new) self.old self.new result (one_field
             lits_at (λ lits. step_with head lits self.old.hashes.items self.old.units.items)) }
     {
@@ -283,7 +284,7 @@ impl<R: Read> BodyReader<R> {
 
     /// Reads the hashes that end the step of this head.
     #[inline(always)]
-    fn with_hashes(&mut self, head: Head, format: Format) -> Result<Head, Stop>
+    fn with_hashes(&mut self, head: Head, format: Format) -> Result<Head, Stop<MalformedStep>>
         requires { IsFormat format }
         ensures { Fills R.remaining (λ h. step_of h self.new) self.old self.new result (one_field
             (hashes_at format)

@@ -2,11 +2,12 @@
 ghost use Rattle.std.specs.Prelude.{◌≡◌, ◌<◌, ◌≤◌, ◌^◌, IfOk};
 
 use crate::ahead::{hash_ahead, hashes_ahead, lits_ahead, number_ahead};
-use crate::fault::{MalformedStep, ProofFault, Stop};
+use crate::fault::{MalformedStep, ProofFault};
 use crate::format::{Format, fits_width};
 use crate::hash::ClauseHash;
 use crate::step::DeleteClauseProof;
 use sat_formula::source::Source;
+use sat_formula::stop::Stop;
 use sat_formula::{Lit, Var};
 use std::alloc::Global;
 use std::io::Read;
@@ -21,7 +22,7 @@ impl<R: Read> Fields<R> {
     ghost use Rattle.proof_bytes.specs.NextStep.{why};
     ghost use Rattle.proof_bytes.specs.Reading.{byte_at, number_at};
     ghost use Rattle.proof_bytes.specs.Fields.{below_at, var_at, lit_at, name_at, justification_at, wide_at, hash_at, unit_at, flag_at, list_at, lits_at, hashes_at};
-    ghost use Rattle.proof_bytes.specs.Taking.{unread_fields, HasItsError, HasStopped, Reads, stop_of};
+    ghost use Rattle.proof_bytes.specs.Taking.{unread_fields, HasItsError, HasStopped, Reads, stop_behind};
     ghost use Rattle.proof_bytes.specs.Formats.{IsFormat};
 
     /// Returns the fields of a reader. Reads nothing yet.
@@ -34,22 +35,22 @@ impl<R: Read> Fields<R> {
     }
 
     /// Returns the fault of a stop, with the error of the read that failed.
-    pub(crate) fn fault(&self, stop: Stop) -> ProofFault
+    pub(crate) fn fault(&self, stop: Stop<MalformedStep>) -> ProofFault
         requires { stop ≡ Stop.Read → HasStopped self.now }
-        ensures stop { stop_of result ≡ stop }
+        ensures stop { stop_behind result ≡ stop }
         ensures error { HasItsError self.now result }
     {
         match stop {
             Stop::End => ProofFault::End,
             Stop::Read => ProofFault::Read(self.source.error()),
-            Stop::Malformed(kind) => ProofFault::Malformed(kind),
+            Stop::Wrong(kind) => ProofFault::Malformed(kind),
             Stop::OutOfMemory => ProofFault::OutOfMemory,
         }
     }
 
     /// Takes a byte and returns it.
     #[inline(always)]
-    pub(crate) fn byte(&mut self) -> Result<u8, Stop>
+    pub(crate) fn byte(&mut self) -> Result<u8, Stop<MalformedStep>>
         ensures { Reads R.remaining (λ b. b) self.old self.new result byte_at }
     {
         Ok(self.source.next_byte()?)
@@ -57,7 +58,7 @@ impl<R: Read> Fields<R> {
 
     /// Takes a number and returns it.
     #[inline(always)]
-    pub(crate) fn number(&mut self) -> Result<u64, Stop>
+    pub(crate) fn number(&mut self) -> Result<u64, Stop<MalformedStep>>
         ensures { Reads R.remaining (λ n. n) self.old self.new result number_at }
     {
         match number_ahead(self.source.ahead()) {
@@ -71,7 +72,7 @@ impl<R: Read> Fields<R> {
 
     /// Reads a number, a byte at a time.
     #[inline(never)]
-    fn number_by_bytes(&mut self) -> Result<u64, Stop>
+    fn number_by_bytes(&mut self) -> Result<u64, Stop<MalformedStep>>
         ensures { Reads R.remaining (λ n. n) self.old self.new result number_at }
     {
         let first = self.byte()?;
@@ -83,7 +84,7 @@ impl<R: Read> Fields<R> {
         'groups: for _ in 0..8u8 {
             let byte = self.byte()?;
             if byte == 0 {
-                return Err(Stop::Malformed(MalformedStep::BadNumber));
+                return Err(Stop::Wrong(MalformedStep::BadNumber));
             }
             if byte < 128 {
                 return Ok(value + weight * byte as u64);
@@ -93,14 +94,14 @@ impl<R: Read> Fields<R> {
         }
         let last = self.byte()?;
         if last != 1 {
-            return Err(Stop::Malformed(MalformedStep::BadNumber));
+            return Err(Stop::Wrong(MalformedStep::BadNumber));
         }
         Ok(value + weight)
     }
 
     /// Takes a number below a limit and returns it.
     #[inline(always)]
-    pub(crate) fn below(&mut self, limit: u64) -> Result<u64, Stop>
+    pub(crate) fn below(&mut self, limit: u64) -> Result<u64, Stop<MalformedStep>>
         ensures read { Reads R.remaining (λ n. n) self.old self.new result (below_at limit) }
         ensures bound { IfOk result (λ n. n < limit) }
     {
@@ -108,29 +109,29 @@ impl<R: Read> Fields<R> {
         if n < limit {
             Ok(n)
         } else {
-            Err(Stop::Malformed(MalformedStep::OutOfRange))
+            Err(Stop::Wrong(MalformedStep::OutOfRange))
         }
     }
 
     /// Takes a literal and returns it.
     #[inline(always)]
-    pub(crate) fn lit(&mut self) -> Result<Lit, Stop>
+    pub(crate) fn lit(&mut self) -> Result<Lit, Stop<MalformedStep>>
         ensures { Reads R.remaining (λ l. l) self.old self.new result lit_at }
     {
         let code = self.number()?;
-        Lit::from_code(code as usize).ok_or(Stop::Malformed(MalformedStep::OutOfRange))
+        Lit::from_code(code as usize).ok_or(Stop::Wrong(MalformedStep::OutOfRange))
     }
 
     /// Takes a variable and returns it.
-    pub(crate) fn var(&mut self) -> Result<Var, Stop>
+    pub(crate) fn var(&mut self) -> Result<Var, Stop<MalformedStep>>
         ensures { Reads R.remaining index_of self.old self.new result var_at }
     {
         let index = self.number()?;
-        Var::from_index(index as usize).ok_or(Stop::Malformed(MalformedStep::OutOfRange))
+        Var::from_index(index as usize).ok_or(Stop::Wrong(MalformedStep::OutOfRange))
     }
 
     /// Takes a name and returns it: a variable, or `None`.
-    pub(crate) fn name(&mut self) -> Result<Option<Var>, Stop>
+    pub(crate) fn name(&mut self) -> Result<Option<Var>, Stop<MalformedStep>>
         ensures { Reads R.remaining indexes_of self.old self.new result name_at }
     {
         let n = self.below(Var::MAX_COUNT as u64 + 1)?;
@@ -141,7 +142,7 @@ impl<R: Read> Fields<R> {
     }
 
     /// Takes a flag, 0 or 1, and returns it.
-    pub(crate) fn flag(&mut self) -> Result<bool, Stop>
+    pub(crate) fn flag(&mut self) -> Result<bool, Stop<MalformedStep>>
         ensures { Reads R.remaining (λ b. b) self.old self.new result flag_at }
     {
         let n = self.below(2)?;
@@ -149,7 +150,7 @@ impl<R: Read> Fields<R> {
     }
 
     /// Takes the justification of a deletion and returns it.
-    pub(crate) fn justification(&mut self) -> Result<DeleteClauseProof, Stop>
+    pub(crate) fn justification(&mut self) -> Result<DeleteClauseProof, Stop<MalformedStep>>
         ensures { Reads R.remaining why self.old self.new result justification_at }
     {
         let n = self.below(3)?;
@@ -162,7 +163,7 @@ impl<R: Read> Fields<R> {
 
     /// Reads a hash, a byte at a time. The last byte is apart, so that its weight is not passed.
     #[inline(never)]
-    fn wide_by_bytes(&mut self, width: u32) -> Result<ClauseHash, Stop>
+    fn wide_by_bytes(&mut self, width: u32) -> Result<ClauseHash, Stop<MalformedStep>>
         requires { (0 < width) × (width ≤ 64) }
         ensures { Reads R.remaining (λ n. n) self.old self.new result (wide_at width) }
     {
@@ -179,12 +180,12 @@ impl<R: Read> Fields<R> {
         if fits_width(value, width) {
             Ok(value)
         } else {
-            Err(Stop::Malformed(MalformedStep::OutOfRange))
+            Err(Stop::Wrong(MalformedStep::OutOfRange))
         }
     }
 
     #[inline(always)]
-    fn hash(&mut self, format: Format) -> Result<ClauseHash, Stop>
+    fn hash(&mut self, format: Format) -> Result<ClauseHash, Stop<MalformedStep>>
         requires { IsFormat format }
         ensures { Reads R.remaining (λ n. n) self.old self.new result (hash_at format) }
     {
@@ -198,7 +199,7 @@ impl<R: Read> Fields<R> {
     }
 
     /// Reads a hash one byte after the other.
-    fn hash_by_bytes(&mut self, format: Format) -> Result<ClauseHash, Stop>
+    fn hash_by_bytes(&mut self, format: Format) -> Result<ClauseHash, Stop<MalformedStep>>
         requires { IsFormat format }
         ensures { Reads R.remaining (λ n. n) self.old self.new result (hash_at format) }
     {
@@ -209,7 +210,7 @@ impl<R: Read> Fields<R> {
     }
 
     /// Reads a list of literals, in place of those in `into`.
-    pub(crate) fn lits(&mut self, into: &mut Vec<Lit>) -> Result<(), Stop>
+    pub(crate) fn lits(&mut self, into: &mut Vec<Lit>) -> Result<(), Stop<MalformedStep>>
         ensures { Reads R.remaining (λ _. into.new.items) self.old self.new result lits_at }
     {
         into.clear();
@@ -225,7 +226,11 @@ impl<R: Read> Fields<R> {
     }
 
     /// Reads a list of hashes, in place of those in `into`.
-    pub(crate) fn hashes(&mut self, into: &mut Vec<ClauseHash>, format: Format) -> Result<(), Stop>
+    pub(crate) fn hashes(
+        &mut self,
+        into: &mut Vec<ClauseHash>,
+        format: Format,
+    ) -> Result<(), Stop<MalformedStep>>
         requires { IsFormat format }
         ensures { Reads R.remaining (λ _. into.new.items) self.old self.new result
             (hashes_at format) }
@@ -247,7 +252,7 @@ impl<R: Read> Fields<R> {
         &mut self,
         into: &mut Vec<(Lit, ClauseHash)>,
         format: Format,
-    ) -> Result<(), Stop>
+    ) -> Result<(), Stop<MalformedStep>>
         requires { IsFormat format }
         ensures { Reads R.remaining (λ _. into.new.items) self.old self.new result
             (list_at (unit_at format)) }

@@ -14,6 +14,7 @@ pub mod lit;
 mod past;
 mod sink;
 pub mod source;
+pub mod stop;
 mod text;
 mod word;
 

@@ -9,7 +9,7 @@ use crate::format::Format;
 use crate::line::{LineKind, Lists};
 use crate::spot::{After, Spot};
 use drat_text::bytes::Bytes;
-use drat_text::fault::Stop as NoByte;
+use sat_formula::stop::Stop as NoByte;
 use std::alloc::Global;
 use std::io::Read;
 use std::mem::swap;

@@ -19,7 +19,7 @@ use Rattle.proof_bytes.specs.declared.format.Format.{Format}
 use Rattle.proof_bytes.specs.declared.format.Format.TheVariants as formats
 use Rattle.proof_bytes.specs.Reading.{Fault, Short, Wrong}
 use Rattle.proof_bytes.specs.Steps.{next_at}
-use Rattle.proof_bytes.specs.Taking.{Faults, IsBytes, Leads, stop_of}
+use Rattle.proof_bytes.specs.Taking.{Faults, IsBytes, Leads, stop_behind}
 use Rattle.proof_bytes.specs.TextRuns.{BeginsTextOf, IsTextOf, RunsTo}
 use Rattle.proof_bytes.specs.Texts.{Place, next_of, start_of}
 use Rattle.proof_bytes.proofs.Leading.{Known, bytes_on}
@@ -230,7 +230,7 @@ module _ {P T : Type 0} {listens : Listens P} {listens_image : ListensImage T} {
 
   -- no step was read
   pub delivered-faulted : WellFormed s → {later : Known} (fault : ProofFault) (e : CheckerError) (u : State) →
-      Faults now later (stop_of fault) (next_at format) → MayRead s' → u ≡ count_step s' → IsReadFault u.steps fault e →
+      Faults now later (stop_behind fault) (next_at format) → MayRead s' → u ≡ count_step s' → IsReadFault u.steps fault e →
       PartsRun known s (err_answer e) u listens listens_image old mid
   delivered-faulted form faults.End e u q may counted is = rw is (stopped form u mid Short (ProofIncomplete u.steps) _ (format, q.taken) may counted
       (p.reads.goes q.taken) q.is_fault.0 (all p.reads _ _ q.bytes q.consumed q.is_fault.1) (λ run. (refl, run)) (silent listens listens_image s' mid))
