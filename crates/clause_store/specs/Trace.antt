@@ -90,6 +90,12 @@ clause_trace us c es =
     if some_true_unit us c then unit_id (unit_of us (var_of (first_true us c))) ∷ []
     else ids_of (open_trace us c es)
 
+-- the ids that are listed once a clause's literals are taken as false, or one is true, become these in a walk that passes, whatever clauses are named
+abbrev pub Opens : Listing → List ℕ → List (Option UnitClause) → (List Stored → List ℕ) → Bool →
+    Type 0
+Opens after ids us whole met = (cs : List Stored) (last : List ℕ) →
+    (if met then Some ids else after ids us cs) ≡ Some last → last ≡ whole cs
+
 -- the ids that are left after a check: those of its trace where it was traced and passed
 abbrev pub last_trace : Bool → Answer → List ℕ → List ℕ → List ℕ
 last_trace traced Passed ids old = if traced then ids else old

@@ -15,15 +15,16 @@ ghost use Rattle.clause_store.specs.Buckets.{AreWithin};
 ghost use Rattle.clause_store.specs.Rup.{AreAllKnown, check_answer, clause_answer, named_buckets};
 ghost use Rattle.clause_store.specs.StateOf.{stored_units};
 ghost use Rattle.clause_store.specs.Trace.{AreStored, clause_trace, last_trace, named_clauses};
+ghost use Rattle.clause_store.specs.Trail.{freed};
 ghost use Rattle.clause_store.specs.Units.{AreKnown};
 
 use crate::clauses::buckets::Buckets;
 use crate::clauses::units::Units;
 pub use crate::rup::check::check_clause_with_hashes;
 use crate::rup::idle::IdleBuckets;
-use crate::rup::propagation::{Propagation, walk_negated};
-use crate::rup::trail::undo;
-use crate::rup::untraced::{FreeTrail, check_untraced};
+use crate::rup::propagation::Propagation;
+use crate::rup::untraced::FreeTrail;
+use crate::rup::walk::check_with;
 use proof_bytes::hash::ClauseHash;
 use sat_formula::lit::Lit;
 use std::alloc::{AllocError, Global};
@@ -49,7 +50,7 @@ pub struct RupCheck {
     /// The ids of what the last check used that was traced and passed.
     pub trace_ids: Vec<u64>,
     ghost at_rest: { propagation.trail.items ≡ [] },
-    ghost none_given: { free.items ≡ [] },
+    ghost none_given: { freed free.items ≡ [] },
 }
 
 impl RupCheck {
@@ -98,7 +99,7 @@ pub fn check_clause(
         rup.new.trace_ids.items ≡ last_trace traced a ids rup.old.trace_ids.items) }
 {
     if !traced {
-        return check_untraced(
+        return check_with(
             units,
             &mut rup.free,
             &mut rup.idle,
@@ -108,13 +109,8 @@ pub fn check_clause(
             hashes,
         );
     }
-    if let Some(id) = units.true_unit_id(lits) {
-        rup.trace_ids.clear();
-        rup.trace_ids.push(id)?;
-        return Ok(Answer::Passed);
-    }
     rup.propagation.trace.clear();
-    let answer = walk_negated(
+    let answer = check_with(
         units,
         &mut rup.propagation,
         &mut rup.idle,
@@ -123,7 +119,6 @@ pub fn check_clause(
         lits,
         hashes,
     );
-    undo(units, &mut rup.propagation.trail);
     if let Ok(Answer::Passed) = answer {
         swap(&mut rup.propagation.trace, &mut rup.trace_ids);
     }

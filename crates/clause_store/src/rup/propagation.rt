@@ -1,27 +1,12 @@
 //! The check that lists what it uses.
-ghost use Rattle.std.specs.Prelude.{◌≡◌, [], IfOk, false};
-ghost use Rattle.sat_rules.specs.Clauses.{is_tautology};
-ghost use Rattle.checker_rules.specs.Passes as rules;
-ghost use Rattle.checker_rules.specs.State.{some_true_unit, start_set};
-ghost use Rattle.checker_rules.specs.Traced.{ids_of};
-ghost use Rattle.clause_store.specs.Buckets.{AreWithin};
-ghost use Rattle.clause_store.specs.Rup.{AreAllKnown, check_answer, named_buckets};
-ghost use Rattle.clause_store.specs.StateOf.{stored_units};
-ghost use Rattle.clause_store.specs.Trace.{AreStored, named_clauses, open_trace};
-ghost use Rattle.clause_store.specs.Trail.{IsTrailFor, IsUndoable};
-ghost use Rattle.clause_store.specs.Units.{AreKnown};
+ghost use Rattle.std.specs.Prelude.{◌≡◌, []};
 
 use crate::clauses::Clause;
-use crate::clauses::buckets::Buckets;
 use crate::clauses::units::{UnitClause, UnitId, Units};
-use crate::rup::Answer;
-use crate::rup::idle::IdleBuckets;
 use crate::rup::status::{ClauseStatus, clause_status};
 use crate::rup::trace::list_units;
-use crate::rup::trail::{Trail, assume_false, overwrite};
-use crate::rup::walk::walk_buckets;
+use crate::rup::trail::{Trail, assume_false, overwrite, undo};
 use crate::rup::walker::Walker;
-use proof_bytes::hash::ClauseHash;
 use sat_formula::lit::Lit;
 use std::alloc::{AllocError, Global};
 
@@ -46,10 +31,10 @@ impl Propagation {
     }
 }
 
-/// Lists the stored units that make literals false, and each clause that is falsified or makes a
-/// literal true.
+/// Lists the stored unit that makes a literal of the clause true; or else those that make literals
+/// false, and each clause that is falsified or makes a literal true.
 impl Walker for Propagation {
-    ghost use Rattle.clause_store.specs.Trace.{ids_after};
+    ghost use Rattle.clause_store.specs.Trace.{clause_trace, ids_after};
 
     ghost written = { λ run. run.trail.items };
 
@@ -57,9 +42,20 @@ impl Walker for Propagation {
 
     ghost after = { ids_after };
 
+    ghost check_ids = { clause_trace };
+
     #[inline]
     fn trail_len(&self) -> usize {
         self.trail.len()
+    }
+
+    fn assume(&mut self, units: &mut Units, lits: &[Lit]) -> Result<bool, AllocError> {
+        if let Some(id) = units.true_unit_id(lits) {
+            self.trace.push(id)?;
+            return Ok(true);
+        }
+        assume_false(units, &mut self.trail, lits)?;
+        Ok(false)
     }
 
     fn visit(
@@ -88,39 +84,8 @@ impl Walker for Propagation {
             ClauseStatus::Idle => Ok(false),
         }
     }
-}
 
-/// Propagates over the named buckets with the literals assigned false, whose values stay, and
-/// returns the result.
-///
-/// # Errors
-///
-/// `AllocError` if memory runs out.
-pub fn walk_negated(
-    units: &mut Units,
-    run: &mut Propagation,
-    idle: &mut IdleBuckets,
-    buckets: &Buckets,
-    buffer: &[Lit],
-    lits: &[Lit],
-    hashes: &[ClauseHash],
-) -> Result<Answer, AllocError>
-    requires within { AreWithin buffer.now buckets.now }
-    requires known { AreKnown units.old lits.now }
-    requires all_known { AreAllKnown units.old buffer.now buckets.now }
-    requires stored { AreStored units.old }
-    requires free { some_true_unit (stored_units units.old) lits.now ≡ false }
-    requires no_tautology { is_tautology lits.now ≡ false }
-    requires trail { IsTrailFor units.old run.old.trail.items }
-    requires trace { run.old.trace.items ≡ [] }
-    ensures answer { let named = named_buckets buffer.now buckets.now hashes.now in
-        IfOk result (λ a. check_answer a
-        ≡ rules.walk_buckets (start_set (stored_units units.old) lits.now) named) }
-    ensures listed { let named = named_clauses buffer.now buckets.now hashes.now in
-        IfOk result (λ a. a ≡ Answer.Passed
-        → run.new.trace.items ≡ ids_of (open_trace (stored_units units.old) lits.now named)) }
-    ensures undoable { IsUndoable units.old run.old.trail.items units.new run.new.trail.items }
-{
-    assume_false(units, &mut run.trail, lits)?;
-    walk_buckets(units, run, idle, buckets, buffer, hashes)
+    fn undo(&mut self, units: &mut Units) {
+        undo(units, &mut self.trail);
+    }
 }

@@ -1,12 +1,14 @@
 //! The walk over the named clauses.
-ghost use Rattle.std.specs.Prelude.{◌≡◌, All, IfOk, None, Some, false, if◌then◌else◌, length, map};
+ghost use Rattle.std.specs.Prelude.{◌≡◌, [], All, IfOk, None, Some, false, if◌then◌else◌, length, map};
+ghost use Rattle.sat_rules.specs.Clauses.{is_tautology};
 ghost use Rattle.checker_rules.specs.Passes as rules;
 ghost use Rattle.clause_store.specs.Buckets.{AreWithin, clauses_at};
 ghost use Rattle.clause_store.specs.Crowds.{standing};
 ghost use Rattle.clause_store.specs.Idle.{AreIdle, IsIdleRun, LengthensRun, idle_at};
 ghost use Rattle.clause_store.specs.Lits.{IsWithin, lits_of};
-ghost use Rattle.clause_store.specs.Rup.{AreAllKnown, Walks, WalksFirst, check_answer, lits_at, lits_in, named_buckets, true_lits};
-ghost use Rattle.clause_store.specs.Trace.{Lists, ListsFirst, named_clauses};
+ghost use Rattle.clause_store.specs.Rup.{AreAllKnown, Walks, WalksFirst, check_answer, clause_answer, lits_at, lits_in, named_buckets, true_lits};
+ghost use Rattle.clause_store.specs.StateOf.{stored_units};
+ghost use Rattle.clause_store.specs.Trace.{AreStored, Lists, ListsFirst, named_clauses};
 ghost use Rattle.clause_store.specs.Trail.{IsTrailFor, IsUndoable};
 ghost use Rattle.clause_store.specs.Units.{AreKnown};
 ghost use Rattle.clause_store.specs.View.{stored_in, stored_of};
@@ -146,11 +148,7 @@ fn visit_named<W: Walker>(
 }
 
 /// Visits the buckets of the hashes in turn, up to a falsified clause or a missing bucket.
-///
-/// # Errors
-///
-/// `AllocError` if memory runs out.
-pub fn walk_buckets<W: Walker>(
+fn walk_buckets<W: Walker>(
     units: &mut Units,
     walker: &mut W,
     idle: &mut IdleBuckets,
@@ -175,4 +173,69 @@ pub fn walk_buckets<W: Walker>(
         }
     }
     Ok(Answer::Failed)
+}
+
+/// Returns the walk with the literals taken as false, whose values stay. A true literal ends it
+/// before.
+fn walk_negated<W: Walker>(
+    units: &mut Units,
+    walker: &mut W,
+    idle: &mut IdleBuckets,
+    buckets: &Buckets,
+    buffer: &[Lit],
+    lits: &[Lit],
+    hashes: &[ClauseHash],
+) -> Result<Answer, AllocError>
+    requires within { AreWithin buffer.now buckets.now }
+    requires known { AreKnown units.old lits.now }
+    requires all_known { AreAllKnown units.old buffer.now buckets.now }
+    requires stored { AreStored units.old }
+    requires no_tautology { is_tautology lits.now ≡ false }
+    requires trail { IsTrailFor units.old (W.written walker.old) }
+    requires ids { W.ids walker.old ≡ [] }
+    ensures answer { let named = named_buckets buffer.now buckets.now hashes.now in
+        IfOk result (λ a. check_answer a ≡ clause_answer (stored_units units.old) lits.now named) }
+    ensures listed { let named = named_clauses buffer.now buckets.now hashes.now in
+        IfOk result (λ a. a ≡ Answer.Passed
+        → W.ids walker.new ≡ W.check_ids (stored_units units.old) lits.now named) }
+    ensures undoable { IsUndoable units.old (W.written walker.old) units.new (W.written walker.new) }
+{
+    if walker.assume(units, lits)? {
+        return Ok(Answer::Passed);
+    }
+    walk_buckets(units, walker, idle, buckets, buffer, hashes)
+}
+
+/// Returns the result of the check of a clause. The values are then what they were.
+///
+/// # Errors
+///
+/// `AllocError` if memory runs out.
+pub fn check_with<W: Walker>(
+    units: &mut Units,
+    walker: &mut W,
+    idle: &mut IdleBuckets,
+    buckets: &Buckets,
+    buffer: &[Lit],
+    lits: &[Lit],
+    hashes: &[ClauseHash],
+) -> Result<Answer, AllocError>
+    requires within { AreWithin buffer.now buckets.now }
+    requires known { AreKnown units.old lits.now }
+    requires all_known { AreAllKnown units.old buffer.now buckets.now }
+    requires stored { AreStored units.old }
+    requires no_tautology { is_tautology lits.now ≡ false }
+    requires trail { W.written walker.old ≡ [] }
+    requires ids { W.ids walker.old ≡ [] }
+    ensures answer { let named = named_buckets buffer.now buckets.now hashes.now in
+        IfOk result (λ a. check_answer a ≡ clause_answer (stored_units units.old) lits.now named) }
+    ensures listed { let named = named_clauses buffer.now buckets.now hashes.now in
+        IfOk result (λ a. a ≡ Answer.Passed
+        → W.ids walker.new ≡ W.check_ids (stored_units units.old) lits.now named) }
+    ensures units { units.new ≡ units.old }
+    ensures trail { W.written walker.new ≡ [] }
+{
+    let answer = walk_negated(units, walker, idle, buckets, buffer, lits, hashes);
+    walker.undo(units);
+    answer
 }
