@@ -61,6 +61,10 @@ pub freed-push : (ms : List ℕ) (m : ℕ) → freed (ms ++ m ∷ []) ≡ freed 
 freed-push [] m = refl
 freed-push (k ∷ ms) m = cc (freed-push ms m)
 
+pub freed-length : (ms : List ℕ) → length (freed ms) ≡ length ms
+freed-length [] = refl
+freed-length (m ∷ ms) = cc (freed-length ms)
+
 -- a variable of the trail is known
 pub freed-known : (us : List (Option UnitClause)) (ms : List ℕ) (i m : ℕ) → IsTrailFor us (freed ms) → i < length ms → m ≡ get_or ms i m → var_of m < length us
 freed-known us [] i m known less is = absurd (omega arith)

@@ -10,7 +10,7 @@ use Rattle.clause_store.specs.declared.clauses.Clause.{Clause}
 use Rattle.clause_store.specs.declared.clauses.units.UnitClause.{UnitClause}
 use Rattle.clause_store.specs.Crowds.{IsPlaced, standing}
 use Rattle.clause_store.specs.Rup.{Walks, lits_in, true_lits}
-use Rattle.clause_store.specs.Trace.{Lists, ids_after}
+use Rattle.clause_store.specs.Trace.{Listing, Lists}
 use Rattle.clause_store.specs.View.{stored_of}
 
 -- how many clauses come before a place
@@ -128,11 +128,11 @@ module _ (buffer : List ℕ) (ps : List (Option Clause)) (i : ℕ) (q : Option C
     place-falsified us vs answer w h =
         sym h ∙ ap (λ cs. walk (true_lits us) (lits_in buffer cs)) place-first ∙ walk-stops (true_lits us) _ (lits_in buffer (standing (drop (i + 1) ps))) w
 
-    pub place-listed : (ids now : List ℕ) (us vs : List (Option UnitClause)) (rest : List Stored) (falsified : Bool) → Lists ids us (stored_of buffer d ∷ []) now vs falsified →
-        ids_after ids us (map (stored_of buffer) (standing (drop i ps)) ++ rest) ≡
-        cond falsified (Some now) (ids_after now vs (map (stored_of buffer) (standing (drop (i + 1) ps)) ++ rest))
-    place-listed ids now us vs rest falsified l =
-        ap (λ cs. ids_after ids us (map (stored_of buffer) cs ++ rest)) place-first ∙ l (map (stored_of buffer) (standing (drop (i + 1) ps)) ++ rest)
+    pub place-listed : (after : Listing) (ids now : List ℕ) (us vs : List (Option UnitClause)) (rest : List Stored) (falsified : Bool) →
+        Lists after ids us (stored_of buffer d ∷ []) now vs falsified → after ids us (map (stored_of buffer) (standing (drop i ps)) ++ rest) ≡
+        cond falsified (Some now) (after now vs (map (stored_of buffer) (standing (drop (i + 1) ps)) ++ rest))
+    place-listed after ids now us vs rest falsified l =
+        ap (λ cs. after ids us (map (stored_of buffer) cs ++ rest)) place-first ∙ l (map (stored_of buffer) (standing (drop (i + 1) ps)) ++ rest)
 
     pub place-all : (P : Clause → Type 0) → All P (standing ps) → P d
     place-all P all = All-stands P ps i d all less (place-is ps i q (Some d) less is)

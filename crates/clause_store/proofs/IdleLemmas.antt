@@ -7,11 +7,10 @@ use Rattle.checker_rules.specs.Passes.{CheckAnswer, walk_buckets}
 use Rattle.clause_store.specs.declared.clauses.Clause.{Clause}
 use Rattle.clause_store.specs.declared.clauses.units.UnitClause.{UnitClause}
 use Rattle.clause_store.specs.declared.rup.Answer.{Answer}
-use Rattle.clause_store.specs.declared.rup.propagation.Propagation.{Propagation}
 use Rattle.clause_store.specs.Buckets.{Buckets, clauses_at}
-use Rattle.clause_store.specs.Idle.{AreIdle, IsIdleRun, IsIdleSince, Lengthens, LengthensRun, idle_at}
+use Rattle.clause_store.specs.Idle.{AreIdle, IsIdleRun, IsIdleSince, Lengthens, LengthensRun}
 use Rattle.clause_store.specs.Rup.{Walks, WalksFirst, answer_or, check_answer, lits_at, lits_in, named_buckets, true_lits}
-use Rattle.clause_store.specs.Trace.{Lists, ids_after, named_clauses}
+use Rattle.clause_store.specs.Trace.{Listing, Lists, named_clauses}
 use Rattle.clause_store.specs.View.{stored_in, stored_of}
 
 -- one walk after another
@@ -28,26 +27,25 @@ lengthens_then_longer x y z n m k h longer = record {
 }
 
 -- what was idle before a walk is idle after it, or the trail grew
-pub are_idle-walked : (us vs : List (Option UnitClause)) (run now : Propagation) (buffer : List ℕ) (b : Buckets) → LengthensRun us run vs now →
-    now.idle ≡ run.idle →
-    AreIdle (idle_at run.idle) (length run.trail.items) (λ h. IsIdleRun run.trace.items us (stored_in buffer b h)) →
-    AreIdle (idle_at now.idle) (length now.trail.items) (λ h. IsIdleRun now.trace.items vs (stored_in buffer b h))
-are_idle-walked us vs run now buffer b g same_idle f h n e =
-    let since = f h n (cc) in
+pub are_idle-walked : (after : Listing) (found : ℕ → Option ℕ) (ids now : List ℕ) (us vs : List (Option UnitClause)) (n m : ℕ) (buffer : List ℕ) (b : Buckets) →
+    LengthensRun ids us n now vs m → AreIdle found n (λ h. IsIdleRun after ids us (stored_in buffer b h)) →
+    AreIdle found m (λ h. IsIdleRun after now vs (stored_in buffer b h))
+are_idle-walked after found ids now us vs n m buffer b g f h k e =
+    let since = f h k e in
     record {
       no_later = omega arith;
-      idle = λ at. let still : length now.trail.items ≡ length run.trail.items = omega arith in rw (g.ids.still still, g.units.still still) (since.idle (cc));
+      idle = λ at. let still : m ≡ n = omega arith in rw (g.listed.still still, g.units.still still) (since.idle (cc));
     }
 
 -- a bucket is idle after its walk, or the trail grew
-pub is_idle_since-walked : (us vs : List (Option UnitClause)) (run now : Propagation) (cs : List Clause) (buffer : List ℕ) (b : Buckets) (h : ℕ)
-    (falsified : Bool) → clauses_at b h ≡ cs → LengthensRun us run vs now → falsified ≡ false →
-    Walks us (lits_in buffer cs) vs falsified → Lists run.trace.items us (map (stored_of buffer) cs) now.trace.items vs falsified →
-    IsIdleSince (length run.trail.items) (length now.trail.items) (IsIdleRun now.trace.items vs (stored_in buffer b h))
-is_idle_since-walked us vs run now cs buffer b h falsified found g none w l = record {
+pub is_idle_since-walked : (after : Listing) (ids now : List ℕ) (us vs : List (Option UnitClause)) (n m : ℕ) (cs : List Clause) (buffer : List ℕ) (b : Buckets) (h : ℕ)
+    (falsified : Bool) → clauses_at b h ≡ cs → LengthensRun ids us n now vs m → falsified ≡ false →
+    Walks us (lits_in buffer cs) vs falsified → Lists after ids us (map (stored_of buffer) cs) now vs falsified →
+    IsIdleSince n m (IsIdleRun after now vs (stored_in buffer b h))
+is_idle_since-walked after ids now us vs n m cs buffer b h falsified found g none w l = record {
   no_later = g.units.no_shorter;
   idle = λ e.
-      let u = g.units.still (sym e) in let i = g.ids.still (sym e) in
+      let u = g.units.still (sym e) in let i = g.listed.still (sym e) in
       rw (found, u, i) (record { walk = rw (u, none) at w; listed = rw (u, i, none) at l });
 }
 
@@ -87,14 +85,14 @@ first-walked buffer m us vs hs i end answer less is h e =
     cc (first-cut buffer m us vs hs i end answer less h e)
 
 -- what is listed of the bucket at hand
-pub listed-ended : (buffer : List ℕ) (m : Buckets) (ids now : List ℕ) (us vs : List (Option UnitClause)) (hs : List ℕ) (i : ℕ) (last : Option (List ℕ)) →
-    i < length hs → Lists ids us (stored_in buffer m (get_or hs i 0)) now vs true →
-    ids_after ids us (named_clauses buffer m (drop i hs)) ≡ last → last ≡ Some now
-listed-ended buffer m ids now us vs hs i last less h e =
+pub listed-ended : (after : Listing) (buffer : List ℕ) (m : Buckets) (ids now : List ℕ) (us vs : List (Option UnitClause)) (hs : List ℕ) (i : ℕ) (last : Option (List ℕ)) →
+    i < length hs → Lists after ids us (stored_in buffer m (get_or hs i 0)) now vs true →
+    after ids us (named_clauses buffer m (drop i hs)) ≡ last → last ≡ Some now
+listed-ended after buffer m ids now us vs hs i last less h e =
     cc (drop_more hs i 0 less, h (named_clauses buffer m (drop (i + 1) hs)))
 
-pub listed-walked : (buffer : List ℕ) (m : Buckets) (ids now : List ℕ) (us vs : List (Option UnitClause)) (hs : List ℕ) (i : ℕ) (last : Option (List ℕ)) →
-    i < length hs → Lists ids us (stored_in buffer m (get_or hs i 0)) now vs false →
-    ids_after ids us (named_clauses buffer m (drop i hs)) ≡ last → ids_after now vs (named_clauses buffer m (drop (i + 1) hs)) ≡ last
-listed-walked buffer m ids now us vs hs i last less h e =
+pub listed-walked : (after : Listing) (buffer : List ℕ) (m : Buckets) (ids now : List ℕ) (us vs : List (Option UnitClause)) (hs : List ℕ) (i : ℕ) (last : Option (List ℕ)) →
+    i < length hs → Lists after ids us (stored_in buffer m (get_or hs i 0)) now vs false →
+    after ids us (named_clauses buffer m (drop i hs)) ≡ last → after now vs (named_clauses buffer m (drop (i + 1) hs)) ≡ last
+listed-walked after buffer m ids now us vs hs i last less h e =
     cc (h (named_clauses buffer m (drop (i + 1) hs)), drop_more hs i 0 less)

@@ -12,7 +12,7 @@ use Rattle.std.specs.Option.{option_map}
 use Rattle.sat_rules.specs.Clauses.{add_lit, negate, unfalsified, is_negative, var_of}
 use Rattle.sat_rules.specs.Named.{Item}
 use Rattle.checker_rules.specs.Hints.{Visit, freeing, listing, on_visit, prepend, stored_item, trace, unit_item, visit, without_lit, unlisted_at}
-use Rattle.checker_rules.specs.State.{Stored, StoredUnit, unit_of, start_set}
+use Rattle.checker_rules.specs.State.{Stored, StoredUnit, some_true_unit, unit_of, start_set}
 use Rattle.checker_rules.specs.Store.{unit_id}
 use Rattle.checker_rules.proofs.Traces.{var-negate}
 use Rattle.checker_rules.specs.Traced.{ids_of}
@@ -21,7 +21,7 @@ use Rattle.clause_store.specs.declared.rup.status.ClauseStatus.TheVariants as st
 use Rattle.clause_store.specs.declared.clauses.units.UnitClause.{UnitClause}
 use Rattle.clause_store.specs.Rup.{status_of, true_lits}
 use Rattle.clause_store.specs.StateOf.{stored_units}
-use Rattle.clause_store.specs.Trace.{AreStored, IsAtRest, KeepsStored, item_ids, look, looked, unlisted_lits, true_unit_id, ids_after, open_trace}
+use Rattle.clause_store.specs.Trace.{AreStored, IsAtRest, KeepsStored, item_ids, look, looked, unlisted_lits, true_unit_id, ids_after, open_trace, Opens, clause_trace}
 use Rattle.clause_store.specs.Units.{lit_value, number_of, stored_id, unit_at, AreKnown}
 use Rattle.clause_store.proofs.UnitsLemmas.{falsity, negation_is, true_lits-by, true_lits-falsity, true_lits-truth, truth, unit_of-stored_units}
 use Rattle.clause_store.proofs.StatusLemmas.{is_unit, known-has}
@@ -234,3 +234,10 @@ pub open_trace-is : (ids t : List ℕ) (us vs : List (Option UnitClause)) (c : L
     t ≡ ids_of (open_trace (stored_units us) c es)
 open_trace-is ids t us vs c es none kept start unlisted h =
     grind (arith, goes_on us vs (start_set (stored_units us) c) (unlisted_at (stored_units us) c) es kept start unlisted, ap (λ xs. ids_after xs vs es) none)
+
+-- where no literal is true already, a check lists what the walk lists
+pub opens-walked : (ids : List ℕ) (us vs : List (Option UnitClause)) (c : List ℕ) → ids ≡ [] → None ≡ true_unit_id (stored_units us) c → KeepsStored us vs →
+    true_lits vs ≡ start_set (stored_units us) c → unlisted_lits vs ≡ unlisted_at (stored_units us) c → Opens ids_after ids vs (clause_trace (stored_units us) c) false
+opens-walked ids us vs c none found kept start unlisted = λ cs last e.
+    let free : some_true_unit (stored_units us) c ≡ false = grind arith in
+    rw free (open_trace-is ids last us vs c cs none kept start unlisted e)

@@ -3,14 +3,13 @@
 --     IsIdle us cs      a walk over these clauses from these values gives none and falsifies none
 --     IsIdleRun      the same, and it lists nothing
 --     AreIdle      what was found idle is idle while the trail is no longer
-use Rattle.std.specs.Prelude.{◌≡◌, ℕ, ◌≤◌, false, nat_eq, List, Option, Some, length}
+use Rattle.std.specs.Prelude.{◌≡◌, ℕ, ◌≤◌, false, nat_eq, List, Option, Some}
 use Rattle.std.specs.HashMap.{get}
 use Rattle.checker_rules.specs.State.{Stored, all_lits}
 use Rattle.clause_store.specs.declared.clauses.units.UnitClause.{UnitClause}
 use Rattle.clause_store.specs.declared.rup.idle.IdleBuckets.{IdleBuckets}
-use Rattle.clause_store.specs.declared.rup.propagation.Propagation.{Propagation}
 use Rattle.clause_store.specs.Rup.{Walks}
-use Rattle.clause_store.specs.Trace.{Lists}
+use Rattle.clause_store.specs.Trace.{Listing, Lists}
 
 -- the length of the trail at which the bucket of a hash was found idle
 abbrev pub idle_at : IdleBuckets → ℕ → Option ℕ
@@ -21,10 +20,10 @@ abbrev pub IsIdle : List (Option UnitClause) → List (List ℕ) → Type 0
 IsIdle us cs = Walks us cs us false
 
 -- a walk over these clauses gives no value, falsifies none, and lists nothing after these ids
-pub record IsIdleRun (ids : List ℕ) (us : List (Option UnitClause)) (es : List Stored) : Type 0
-  where
-    pub walk : IsIdle us (all_lits es)
-    pub listed : Lists ids us es ids us false
+pub record IsIdleRun (after : Listing) (ids : List ℕ) (us : List (Option UnitClause))
+    (es : List Stored) : Type 0 where
+  pub walk : IsIdle us (all_lits es)
+  pub listed : Lists after ids us es ids us false
 
 -- found at a trail of length n, and idle while its length is that
 pub record IsIdleSince (n now : ℕ) (Idle : Type 0) : Type 0 where
@@ -40,9 +39,8 @@ pub record Lengthens {A : Type 0} (x : A) (n : ℕ) (y : A) (m : ℕ) : Type 0 w
   pub no_shorter : n ≤ m
   pub still : m ≡ n → y ≡ x
 
--- how values and listed ids get longer with the trail
-pub record LengthensRun (us : List (Option UnitClause)) (run : Propagation)
-    (vs : List (Option UnitClause)) (now : Propagation) : Type 0 where
-  pub units : Lengthens us (length run.trail.items) vs (length now.trail.items)
-  pub ids : Lengthens run.trace.items (length run.trail.items)
-      now.trace.items (length now.trail.items)
+-- how listed ids and values get longer with a trail of length n that gets the length m
+pub record LengthensRun (ids : List ℕ) (us : List (Option UnitClause)) (n : ℕ) (now : List ℕ)
+    (vs : List (Option UnitClause)) (m : ℕ) : Type 0 where
+  pub units : Lengthens us n vs m
+  pub listed : Lengthens ids n now m

@@ -47,22 +47,27 @@ look us c = visit (stored_units us) (true_lits us) (unlisted_lits us) c
 abbrev pub looked : List ℕ → List (Option UnitClause) → List ℕ → List ℕ × (ℕ → Bool)
 looked ids us c = (ids ++ item_ids (look us c).items, (look us c).unlisted)
 
--- the ids that are listed after a walk that meets a falsified clause
+-- which ids are listed after a walk that meets a falsified clause, by those before it, the values and the clauses
+abbrev pub Listing : Type 0
+Listing = List ℕ → List (Option UnitClause) → List Stored → Option (List ℕ)
+
+-- the ids that a traced check has listed then
 abbrev pub ids_after : List ℕ → List (Option UnitClause) → List Stored → Option (List ℕ)
 ids_after ids us es = option_map (λ items. ids ++ item_ids items)
     (trace (stored_units us) (true_lits us) (unlisted_lits us) es)
 
 -- a walk over clauses meets a falsified one, or continues with these ids and values, whatever clauses follow
-abbrev pub Lists : List ℕ → List (Option UnitClause) → List Stored → List ℕ →
+abbrev pub Lists : Listing → List ℕ → List (Option UnitClause) → List Stored → List ℕ →
     List (Option UnitClause) → Bool → Type 0
-Lists ids us es now vs falsified = (rest : List Stored) →
-    ids_after ids us (es ++ rest) ≡ (if falsified then Some now else ids_after now vs rest)
+Lists after ids us es now vs falsified = (rest : List Stored) →
+    after ids us (es ++ rest) ≡ (if falsified then Some now else after now vs rest)
 
 -- a walk over buckets, these clauses the first, ends in it with these ids, or continues with them
-pub record ListsFirst (ids : List ℕ) (us : List (Option UnitClause)) (es : List Stored)
-    (now : List ℕ) (vs : List (Option UnitClause)) (end : Option Answer) : Type 0 where
-  pub passed : end ≡ Some Passed → Lists ids us es now vs true
-  pub goes_on : end ≡ None → Lists ids us es now vs false
+pub record ListsFirst (after : Listing) (ids : List ℕ) (us : List (Option UnitClause))
+    (es : List Stored) (now : List ℕ) (vs : List (Option UnitClause)) (end : Option Answer) :
+    Type 0 where
+  pub passed : end ≡ Some Passed → Lists after ids us es now vs true
+  pub goes_on : end ≡ None → Lists after ids us es now vs false
 
 -- the clauses of the named buckets, one after the other
 abbrev pub named_clauses : List ℕ → Buckets → List ℕ → List Stored
@@ -84,6 +89,12 @@ abbrev pub clause_trace : List (Option StoredUnit) → List ℕ → List Stored 
 clause_trace us c es =
     if some_true_unit us c then unit_id (unit_of us (var_of (first_true us c))) ∷ []
     else ids_of (open_trace us c es)
+
+-- the ids that are listed once a clause's literals are taken as false, or one is true, become these in a walk that passes, whatever clauses are named
+abbrev pub Opens : Listing → List ℕ → List (Option UnitClause) → (List Stored → List ℕ) → Bool →
+    Type 0
+Opens after ids us whole met = (cs : List Stored) (last : List ℕ) →
+    (if met then Some ids else after ids us cs) ≡ Some last → last ≡ whole cs
 
 -- the ids that are left after a check: those of its trace where it was traced and passed
 abbrev pub last_trace : Bool → Answer → List ℕ → List ℕ → List ℕ

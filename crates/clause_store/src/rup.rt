@@ -7,6 +7,7 @@ mod trace;
 mod trail;
 mod untraced;
 mod walk;
+mod walker;
 
 ghost use Rattle.std.specs.Prelude.{◌≡◌, [], false, length, true, IfOk};
 ghost use Rattle.sat_rules.specs.Clauses.{is_tautology};
@@ -14,15 +15,16 @@ ghost use Rattle.clause_store.specs.Buckets.{AreWithin};
 ghost use Rattle.clause_store.specs.Rup.{AreAllKnown, check_answer, clause_answer, named_buckets};
 ghost use Rattle.clause_store.specs.StateOf.{stored_units};
 ghost use Rattle.clause_store.specs.Trace.{AreStored, clause_trace, last_trace, named_clauses};
+ghost use Rattle.clause_store.specs.Trail.{freed};
 ghost use Rattle.clause_store.specs.Units.{AreKnown};
 
 use crate::clauses::buckets::Buckets;
 use crate::clauses::units::Units;
 pub use crate::rup::check::check_clause_with_hashes;
+use crate::rup::idle::IdleBuckets;
 use crate::rup::propagation::Propagation;
-use crate::rup::trail::undo;
-use crate::rup::untraced::{FreePropagation, check_untraced};
-use crate::rup::walk::walk_negated;
+use crate::rup::untraced::FreeTrail;
+use crate::rup::walk::check_with;
 use proof_bytes::hash::ClauseHash;
 use sat_formula::lit::Lit;
 use std::alloc::{AllocError, Global};
@@ -43,11 +45,12 @@ pub enum Answer {
 #[derive(Drop)]
 pub struct RupCheck {
     propagation: Propagation,
-    free: FreePropagation,
+    free: FreeTrail,
+    idle: IdleBuckets,
     /// The ids of what the last check used that was traced and passed.
     pub trace_ids: Vec<u64>,
     ghost at_rest: { propagation.trail.items ≡ [] },
-    ghost none_given: { free.trail.items ≡ [] },
+    ghost none_given: { freed free.items ≡ [] },
 }
 
 impl RupCheck {
@@ -57,7 +60,8 @@ impl RupCheck {
     {
         RupCheck {
             propagation: Propagation::new(alloc),
-            free: FreePropagation::new(alloc),
+            free: Vec::new(alloc),
+            idle: IdleBuckets::new(alloc),
             trace_ids: Vec::new(alloc),
         }
     }
@@ -95,16 +99,26 @@ pub fn check_clause(
         rup.new.trace_ids.items ≡ last_trace traced a ids rup.old.trace_ids.items) }
 {
     if !traced {
-        return check_untraced(units, &mut rup.free, buckets, buffer, lits, hashes);
-    }
-    if let Some(id) = units.true_unit_id(lits) {
-        rup.trace_ids.clear();
-        rup.trace_ids.push(id)?;
-        return Ok(Answer::Passed);
+        return check_with(
+            units,
+            &mut rup.free,
+            &mut rup.idle,
+            buckets,
+            buffer,
+            lits,
+            hashes,
+        );
     }
     rup.propagation.trace.clear();
-    let answer = walk_negated(units, &mut rup.propagation, buckets, buffer, lits, hashes);
-    undo(units, &mut rup.propagation.trail);
+    let answer = check_with(
+        units,
+        &mut rup.propagation,
+        &mut rup.idle,
+        buckets,
+        buffer,
+        lits,
+        hashes,
+    );
     if let Ok(Answer::Passed) = answer {
         swap(&mut rup.propagation.trace, &mut rup.trace_ids);
     }

@@ -1,16 +1,14 @@
-//! The walk over the named clauses that lists what it uses.
-ghost use Rattle.std.specs.Prelude.{◌≡◌, ◌∷◌, [], All, IfOk, None, Some, false, length, map};
+//! The walk over the named clauses.
+ghost use Rattle.std.specs.Prelude.{◌≡◌, [], All, IfOk, None, Some, false, if◌then◌else◌, length, map};
 ghost use Rattle.sat_rules.specs.Clauses.{is_tautology};
 ghost use Rattle.checker_rules.specs.Passes as rules;
-ghost use Rattle.checker_rules.specs.State.{some_true_unit, start_set};
-ghost use Rattle.checker_rules.specs.Traced.{ids_of};
 ghost use Rattle.clause_store.specs.Buckets.{AreWithin, clauses_at};
 ghost use Rattle.clause_store.specs.Crowds.{standing};
 ghost use Rattle.clause_store.specs.Idle.{AreIdle, IsIdleRun, LengthensRun, idle_at};
 ghost use Rattle.clause_store.specs.Lits.{IsWithin, lits_of};
-ghost use Rattle.clause_store.specs.Rup.{AreAllKnown, Walks, WalksFirst, check_answer, lits_at, lits_in, named_buckets, true_lits};
+ghost use Rattle.clause_store.specs.Rup.{AreAllKnown, Walks, WalksFirst, check_answer, clause_answer, lits_at, lits_in, named_buckets, true_lits};
 ghost use Rattle.clause_store.specs.StateOf.{stored_units};
-ghost use Rattle.clause_store.specs.Trace.{AreStored, Lists, ListsFirst, ids_after, named_clauses, open_trace};
+ghost use Rattle.clause_store.specs.Trace.{AreStored, Lists, ListsFirst, named_clauses};
 ghost use Rattle.clause_store.specs.Trail.{IsTrailFor, IsUndoable};
 ghost use Rattle.clause_store.specs.Units.{AreKnown};
 ghost use Rattle.clause_store.specs.View.{stored_in, stored_of};
@@ -18,87 +16,39 @@ ghost use Rattle.clause_store.specs.View.{stored_in, stored_of};
 use crate::clauses::Clause;
 use crate::clauses::buckets::{Bucket, Buckets};
 use crate::clauses::places::some_stands;
-use crate::clauses::units::{UnitClause, UnitId, Units};
+use crate::clauses::units::Units;
 use crate::rup::Answer;
-use crate::rup::idle::LONG_BUCKET;
-use crate::rup::propagation::Propagation;
-use crate::rup::status::{ClauseStatus, clause_status};
-use crate::rup::trace::list_units;
-use crate::rup::trail::{assume_false, overwrite};
-use crate::rup::untraced::end_of;
+use crate::rup::idle::{IdleBuckets, LONG_BUCKET};
+use crate::rup::walker::Walker;
 use proof_bytes::hash::ClauseHash;
 use sat_formula::lit::Lit;
 use std::alloc::AllocError;
 
-/// Assigns true to the only unassigned literal of a clause whose other literals are false. Returns
-/// whether the clause is falsified.
-///
-/// # Errors
-///
-/// `AllocError` if memory runs out.
-pub fn visit_clause(
-    units: &mut Units,
-    run: &mut Propagation,
-    clause: &Clause,
-    buffer: &[Lit],
-) -> Result<bool, AllocError>
-    requires within { IsWithin clause.now.lits buffer.now }
-    requires known { AreKnown units.old (lits_of clause.now.lits buffer.now) }
-    requires trail { IsTrailFor units.old run.old.trail.items }
-    ensures ok { IfOk result (Walks units.old (lits_in buffer.now (clause.now ∷ [])) units.new) }
-    ensures listed { IfOk result (Lists run.old.trace.items units.old
-        (stored_of buffer.now clause.now ∷ []) run.new.trace.items units.new) }
-    ensures lengthens { IfOk result (λ falsified. falsified ≡ false
-        → LengthensRun units.old run.old units.new run.new) }
-    ensures undoable { IsUndoable units.old run.old.trail.items units.new run.new.trail.items }
-    ensures idle { run.new.idle ≡ run.old.idle }
-{
-    let lits = clause.lits.slice(buffer);
-    let status = clause_status(units, lits);
-    list_units(units, &mut run.trail, &mut run.trace, lits)?;
-    match status {
-        ClauseStatus::Falsified => {
-            run.trace.push(clause.id)?;
-            Ok(true)
-        }
-        ClauseStatus::Unit(lit) => {
-            let unit = UnitClause {
-                id: UnitId::TracePos(run.trace.len()),
-                value: lit.is_positive(),
-            };
-            run.trace.push(clause.id)?;
-            overwrite(units, &mut run.trail, lit, unit)?;
-            Ok(false)
-        }
-        ClauseStatus::Idle => Ok(false),
-    }
-}
-
 /// Visits the clauses of the slots in turn, and returns whether one is falsified.
-fn visit_places(
+fn visit_places<W: Walker>(
     units: &mut Units,
-    run: &mut Propagation,
+    walker: &mut W,
     places: &[Option<Clause>],
     buffer: &[Lit],
 ) -> Result<bool, AllocError>
     requires within { All (λ c. IsWithin c.lits buffer.now) (standing places.now) }
     requires known { All (λ c. AreKnown units.old (lits_of c.lits buffer.now))
         (standing places.now) }
-    requires trail { IsTrailFor units.old run.old.trail.items }
+    requires trail { IsTrailFor units.old (W.written walker.old) }
     ensures ok { IfOk result (Walks units.old (lits_in buffer.now (standing places.now))
         units.new) }
-    ensures listed { IfOk result (Lists run.old.trace.items units.old
-        (map (stored_of buffer.now) (standing places.now)) run.new.trace.items units.new) }
+    ensures listed { IfOk result (Lists W.after (W.ids walker.old) units.old
+        (map (stored_of buffer.now) (standing places.now)) (W.ids walker.new) units.new) }
     ensures lengthens { IfOk result (λ falsified. falsified ≡ false
-        → LengthensRun units.old run.old units.new run.new) }
-    ensures undoable { IsUndoable units.old run.old.trail.items units.new run.new.trail.items }
-    ensures idle { run.new.idle ≡ run.old.idle }
+        → LengthensRun (W.ids walker.old) units.old (length (W.written walker.old))
+        (W.ids walker.new) units.new (length (W.written walker.new))) }
+    ensures undoable { IsUndoable units.old (W.written walker.old) units.new (W.written walker.new) }
 {
     for place in places {
         let Some(clause) = place else {
             continue;
         };
-        if visit_clause(units, run, clause, buffer)? {
+        if walker.visit(units, clause, buffer)? {
             return Ok(true);
         }
     }
@@ -108,9 +58,10 @@ fn visit_places(
 /// Visits the clauses of a hash that has several, unless they are many and known to be idle.
 /// Returns what ends the walk there.
 // The clauses of the contract alone read `buckets`.
-fn visit_crowd(
+fn visit_crowd<W: Walker>(
     units: &mut Units,
-    run: &mut Propagation,
+    walker: &mut W,
+    idle: &mut IdleBuckets,
     places: &[Option<Clause>],
     buckets: &Buckets,
     buffer: &[Lit],
@@ -119,103 +70,117 @@ fn visit_crowd(
     requires is { clauses_at buckets.now hash ≡ standing places.now }
     requires within { AreWithin buffer.now buckets.now }
     requires known { AreAllKnown units.old buffer.now buckets.now }
-    requires trail { IsTrailFor units.old run.old.trail.items }
-    requires idle { AreIdle (idle_at run.old.idle) (length run.old.trail.items)
-        (λ h. IsIdleRun run.old.trace.items units.old (stored_in buffer.now buckets.now h)) }
+    requires trail { IsTrailFor units.old (W.written walker.old) }
+    requires idle { AreIdle (idle_at idle.old) (length (W.written walker.old))
+        (λ h. IsIdleRun W.after (W.ids walker.old) units.old (stored_in buffer.now buckets.now h)) }
     ensures ok { let bucket = lits_at buffer.now buckets.now hash in
         IfOk result (WalksFirst units.old bucket units.new) }
-    ensures listed { IfOk result (ListsFirst run.old.trace.items units.old
-        (stored_in buffer.now buckets.now hash) run.new.trace.items units.new) }
+    ensures listed { IfOk result (ListsFirst W.after (W.ids walker.old) units.old
+        (stored_in buffer.now buckets.now hash) (W.ids walker.new) units.new) }
     ensures idle { IfOk result (λ end. end ≡ None
-        → AreIdle (idle_at run.new.idle) (length run.new.trail.items)
-        (λ h. IsIdleRun run.new.trace.items units.new (stored_in buffer.now buckets.now h))) }
-    ensures undoable { IsUndoable units.old run.old.trail.items units.new run.new.trail.items }
+        → AreIdle (idle_at idle.new) (length (W.written walker.new))
+        (λ h. IsIdleRun W.after (W.ids walker.new) units.new
+        (stored_in buffer.now buckets.now h))) }
+    ensures undoable { IsUndoable units.old (W.written walker.old) units.new (W.written walker.new) }
 {
     if !some_stands(places) {
         return Ok(Some(Answer::NoClauseForHash));
     }
     let is_long = places.len() > LONG_BUCKET;
-    let given = run.trail.len();
-    if is_long && run.idle.has(hash, given) {
+    let given = walker.trail_len();
+    if is_long && idle.has(hash, given) {
         return Ok(None);
     }
-    if visit_places(units, run, places, buffer)? {
+    if visit_places(units, walker, places, buffer)? {
         return Ok(Some(Answer::Passed));
     }
-    if is_long && run.trail.len() == given {
+    if is_long && walker.trail_len() == given {
         // Where an allocation fails it is walked again.
-        let _refused = run.idle.add(hash, given);
+        let _refused = idle.add(hash, given);
     }
     Ok(None)
 }
 
+/// Returns what ends a walk in a bucket where a clause is falsified, or none is.
+#[inline]
+fn end_of(falsified: bool) -> Option<Answer>
+    ensures { result ≡ (if falsified then Some Answer.Passed else None) }
+{
+    if falsified {
+        Some(Answer::Passed)
+    } else {
+        None
+    }
+}
+
 /// Visits the bucket of a hash. Returns what ends the walk there.
-fn visit_named(
+#[inline]
+fn visit_named<W: Walker>(
     units: &mut Units,
-    run: &mut Propagation,
+    walker: &mut W,
+    idle: &mut IdleBuckets,
     buckets: &Buckets,
     buffer: &[Lit],
     hash: ClauseHash,
 ) -> Result<Option<Answer>, AllocError>
     requires within { AreWithin buffer.now buckets.now }
     requires known { AreAllKnown units.old buffer.now buckets.now }
-    requires trail { IsTrailFor units.old run.old.trail.items }
-    requires idle { AreIdle (idle_at run.old.idle) (length run.old.trail.items)
-        (λ h. IsIdleRun run.old.trace.items units.old (stored_in buffer.now buckets.now h)) }
+    requires trail { IsTrailFor units.old (W.written walker.old) }
+    requires idle { AreIdle (idle_at idle.old) (length (W.written walker.old))
+        (λ h. IsIdleRun W.after (W.ids walker.old) units.old (stored_in buffer.now buckets.now h)) }
     ensures ok { let bucket = lits_at buffer.now buckets.now hash in
         IfOk result (WalksFirst units.old bucket units.new) }
-    ensures listed { IfOk result (ListsFirst run.old.trace.items units.old
-        (stored_in buffer.now buckets.now hash) run.new.trace.items units.new) }
+    ensures listed { IfOk result (ListsFirst W.after (W.ids walker.old) units.old
+        (stored_in buffer.now buckets.now hash) (W.ids walker.new) units.new) }
     ensures idle { IfOk result (λ end. end ≡ None
-        → AreIdle (idle_at run.new.idle) (length run.new.trail.items)
-        (λ h. IsIdleRun run.new.trace.items units.new (stored_in buffer.now buckets.now h))) }
-    ensures undoable { IsUndoable units.old run.old.trail.items units.new run.new.trail.items }
+        → AreIdle (idle_at idle.new) (length (W.written walker.new))
+        (λ h. IsIdleRun W.after (W.ids walker.new) units.new
+        (stored_in buffer.now buckets.now h))) }
+    ensures undoable { IsUndoable units.old (W.written walker.old) units.new (W.written walker.new) }
 {
     match buckets.get(&hash) {
-        Some(Bucket::One(clause)) => Ok(end_of(visit_clause(units, run, clause, buffer)?)),
+        Some(Bucket::One(clause)) => Ok(end_of(walker.visit(units, clause, buffer)?)),
         Some(Bucket::Many(crowd)) => {
-            visit_crowd(units, run, &crowd.places, buckets, buffer, hash)
+            visit_crowd(units, walker, idle, &crowd.places, buckets, buffer, hash)
         }
         None => Ok(Some(Answer::NoClauseForHash)),
     }
 }
 
 /// Visits the buckets of the hashes in turn, up to a falsified clause or a missing bucket.
-fn walk_buckets(
+fn walk_buckets<W: Walker>(
     units: &mut Units,
-    run: &mut Propagation,
+    walker: &mut W,
+    idle: &mut IdleBuckets,
     buckets: &Buckets,
     buffer: &[Lit],
     hashes: &[ClauseHash],
 ) -> Result<Answer, AllocError>
     requires within { AreWithin buffer.now buckets.now }
     requires known { AreAllKnown units.old buffer.now buckets.now }
-    requires trail { IsTrailFor units.old run.old.trail.items }
+    requires trail { IsTrailFor units.old (W.written walker.old) }
     ensures ok { let named = named_buckets buffer.now buckets.now hashes.now in
         IfOk result (λ a. check_answer a ≡ rules.walk_buckets (true_lits units.old) named) }
     ensures listed { let named = named_clauses buffer.now buckets.now hashes.now in
         IfOk result (λ a. a ≡ Answer.Passed
-        → ids_after run.old.trace.items units.old named ≡ Some run.new.trace.items) }
-    ensures undoable { IsUndoable units.old run.old.trail.items units.new run.new.trail.items }
+        → W.after (W.ids walker.old) units.old named ≡ Some (W.ids walker.new)) }
+    ensures undoable { IsUndoable units.old (W.written walker.old) units.new (W.written walker.new) }
 {
-    run.idle.forget();
+    idle.forget();
     for hash in hashes {
-        if let Some(answer) = visit_named(units, run, buckets, buffer, *hash)? {
+        if let Some(answer) = visit_named(units, walker, idle, buckets, buffer, *hash)? {
             return Ok(answer);
         }
     }
     Ok(Answer::Failed)
 }
 
-/// Propagates over the named buckets with the literals assigned false, whose values stay, and
-/// returns the result.
-///
-/// # Errors
-///
-/// `AllocError` if memory runs out.
-pub fn walk_negated(
+/// Returns the walk with the literals taken as false, whose values stay. A true literal ends it
+/// before.
+fn walk_negated<W: Walker>(
     units: &mut Units,
-    run: &mut Propagation,
+    walker: &mut W,
+    idle: &mut IdleBuckets,
     buckets: &Buckets,
     buffer: &[Lit],
     lits: &[Lit],
@@ -225,18 +190,52 @@ pub fn walk_negated(
     requires known { AreKnown units.old lits.now }
     requires all_known { AreAllKnown units.old buffer.now buckets.now }
     requires stored { AreStored units.old }
-    requires free { some_true_unit (stored_units units.old) lits.now ≡ false }
     requires no_tautology { is_tautology lits.now ≡ false }
-    requires trail { IsTrailFor units.old run.old.trail.items }
-    requires trace { run.old.trace.items ≡ [] }
+    requires trail { IsTrailFor units.old (W.written walker.old) }
+    requires ids { W.ids walker.old ≡ [] }
     ensures answer { let named = named_buckets buffer.now buckets.now hashes.now in
-        IfOk result (λ a. check_answer a
-        ≡ rules.walk_buckets (start_set (stored_units units.old) lits.now) named) }
+        IfOk result (λ a. check_answer a ≡ clause_answer (stored_units units.old) lits.now named) }
     ensures listed { let named = named_clauses buffer.now buckets.now hashes.now in
         IfOk result (λ a. a ≡ Answer.Passed
-        → run.new.trace.items ≡ ids_of (open_trace (stored_units units.old) lits.now named)) }
-    ensures undoable { IsUndoable units.old run.old.trail.items units.new run.new.trail.items }
+        → W.ids walker.new ≡ W.check_ids (stored_units units.old) lits.now named) }
+    ensures undoable { IsUndoable units.old (W.written walker.old) units.new (W.written walker.new) }
 {
-    assume_false(units, &mut run.trail, lits)?;
-    walk_buckets(units, run, buckets, buffer, hashes)
+    if walker.assume(units, lits)? {
+        return Ok(Answer::Passed);
+    }
+    walk_buckets(units, walker, idle, buckets, buffer, hashes)
+}
+
+/// Returns the result of the check of a clause. The values are then what they were.
+///
+/// # Errors
+///
+/// `AllocError` if memory runs out.
+pub fn check_with<W: Walker>(
+    units: &mut Units,
+    walker: &mut W,
+    idle: &mut IdleBuckets,
+    buckets: &Buckets,
+    buffer: &[Lit],
+    lits: &[Lit],
+    hashes: &[ClauseHash],
+) -> Result<Answer, AllocError>
+    requires within { AreWithin buffer.now buckets.now }
+    requires known { AreKnown units.old lits.now }
+    requires all_known { AreAllKnown units.old buffer.now buckets.now }
+    requires stored { AreStored units.old }
+    requires no_tautology { is_tautology lits.now ≡ false }
+    requires trail { W.written walker.old ≡ [] }
+    requires ids { W.ids walker.old ≡ [] }
+    ensures answer { let named = named_buckets buffer.now buckets.now hashes.now in
+        IfOk result (λ a. check_answer a ≡ clause_answer (stored_units units.old) lits.now named) }
+    ensures listed { let named = named_clauses buffer.now buckets.now hashes.now in
+        IfOk result (λ a. a ≡ Answer.Passed
+        → W.ids walker.new ≡ W.check_ids (stored_units units.old) lits.now named) }
+    ensures units { units.new ≡ units.old }
+    ensures trail { W.written walker.new ≡ [] }
+{
+    let answer = walk_negated(units, walker, idle, buckets, buffer, lits, hashes);
+    walker.undo(units);
+    answer
 }

@@ -7,45 +7,44 @@ use Rattle.clause_store.proofs.CrowdLemmas.{place-all, place-falsified, place-fr
 use Rattle.clause_store.proofs.AssumeLemmas.{is_undoable_then}
 use Rattle.clause_store.proofs.rup.walk.visit_places.Goals as goal
 
-pub visit_clause-requires-clause-within : goal.visit_clause-requires-clause-within
-visit_clause-requires-clause-within c =
+pub visit-requires-clause-within : goal.visit-requires-clause-within
+visit-requires-clause-within g c =
     place-all c.args.buffer.now _ _ _ c.loop-place-test.true _ (sym c.place-item.is ∙ c.in-Some.is) (λ e. IsWithin e.lits c.args.buffer.now) c.requires.within
 
-pub visit_clause-requires-clause-known : goal.visit_clause-requires-clause-known
-visit_clause-requires-clause-known c =
+pub visit-requires-clause-known : goal.visit-requires-clause-known
+visit-requires-clause-known g c =
     rw c.loop-place.invariant.undoable.known (place-all c.args.buffer.now _ _ _ c.loop-place-test.true _ (sym c.place-item.is ∙ c.in-Some.is)
     (λ e. AreKnown c.args.units.now (lits_of e.lits c.args.buffer.now)) c.requires.known)
 
 pub loop-place-preserved : goal.loop-place-preserved
-loop-place-preserved c =
+loop-place-preserved g c =
     let is : get_or c.args.places.now c.loop-place.place-index c.place-item.result ≡ Some c.in-Some.clause = sym c.place-item.is ∙ c.in-Some.is in
-    let v = c.loop-place.invariant in let given = c.in_ok-visit_clause.ensures in let longer = given.lengthens c.if-branch.false in
+    let v = c.loop-place.invariant in let given = c.in_ok-visit.ensures in let longer = given.lengthens c.if-branch.false in
     record {
       same = place-walked c.args.buffer.now c.args.places.now c.loop-place.place-index _ c.loop-place-test.true c.in-Some.clause is
-          c.loop-place.units c.visit_clause.new.units _ (rw c.if-branch.false at given.ok) v.same;
+          c.loop-place.units c.visit.new.units _ (rw c.if-branch.false at given.ok) v.same;
       listed = λ rest. sym (place-listed c.args.buffer.now c.args.places.now c.loop-place.place-index _ c.loop-place-test.true c.in-Some.clause is
-          c.loop-place.run.trace.items c.visit_clause.new.run.trace.items c.loop-place.units c.visit_clause.new.units rest false (rw c.if-branch.false at given.listed)) ∙ v.listed rest;
-      lengthens = record { units = lengthens_then _ _ _ _ _ _ v.lengthens.units longer.units; ids = lengthens_then _ _ _ _ _ _ v.lengthens.ids longer.ids };
-      undoable = is_undoable_then _ _ _ _ _ _ v.undoable c.visit_clause.ensures.undoable;
-      idle = c.visit_clause.ensures.idle ∙ v.idle;
+          g.W.Walker.after (g.W.Walker.ids c.loop-place.walker) (g.W.Walker.ids c.visit.new.self) c.loop-place.units c.visit.new.units rest false (rw c.if-branch.false at given.listed)) ∙ v.listed rest;
+      lengthens = record { units = lengthens_then _ _ _ _ _ _ v.lengthens.units longer.units; listed = lengthens_then _ _ _ _ _ _ v.lengthens.listed longer.listed };
+      undoable = is_undoable_then _ _ _ _ _ _ v.undoable c.visit.ensures.undoable;
     }
 
 pub loop-place-preserved-in_default : goal.loop-place-preserved-in_default
-loop-place-preserved-in_default c =
+loop-place-preserved-in_default g c =
     rw (← place-free c.args.buffer.now c.args.places.now c.loop-place.place-index _ c.loop-place-test.true (sym c.place-item.is ∙ c.in_default.is)) c.loop-place.invariant
 
 pub returns-then-branch-clause-ok : goal.returns-then-branch-clause-ok
-returns-then-branch-clause-ok c =
-    place-falsified _ _ _ _ c.loop-place-test.true _ (sym c.place-item.is ∙ c.in-Some.is) _ c.visit_clause.new.units _ (rw c.if-branch.true at c.in_ok-visit_clause.ensures.ok) c.loop-place.invariant.same
+returns-then-branch-clause-ok g c =
+    place-falsified _ _ _ _ c.loop-place-test.true _ (sym c.place-item.is ∙ c.in-Some.is) _ c.visit.new.units _ (rw c.if-branch.true at c.in_ok-visit.ensures.ok) c.loop-place.invariant.same
 
 pub returns-then-branch-clause-listed : goal.returns-then-branch-clause-listed
-returns-then-branch-clause-listed c rest =
+returns-then-branch-clause-listed g c rest =
     let is : get_or c.args.places.now c.loop-place.place-index c.place-item.result ≡ Some c.in-Some.clause = sym c.place-item.is ∙ c.in-Some.is in
     sym (c.loop-place.invariant.listed rest) ∙ place-listed c.args.buffer.now c.args.places.now c.loop-place.place-index _ c.loop-place-test.true c.in-Some.clause is
-    c.loop-place.run.trace.items c.visit_clause.new.run.trace.items c.loop-place.units c.visit_clause.new.units rest true (rw c.if-branch.true at c.in_ok-visit_clause.ensures.listed)
+    g.W.Walker.after (g.W.Walker.ids c.loop-place.walker) (g.W.Walker.ids c.visit.new.self) c.loop-place.units c.visit.new.units rest true (rw c.if-branch.true at c.in_ok-visit.ensures.listed)
 
 pub returns-clause-ok : goal.returns-clause-ok
-returns-clause-ok c = sym (rw (drop_of_length-le c.args.places.now c.loop-place-test.false) at c.loop-place.invariant.same)
+returns-clause-ok g c = sym (rw (drop_of_length-le c.args.places.now c.loop-place-test.false) at c.loop-place.invariant.same)
 
 pub returns-clause-listed : goal.returns-clause-listed
-returns-clause-listed c rest = sym (rw (drop_of_length-le c.args.places.now c.loop-place-test.false) at (c.loop-place.invariant.listed rest))
+returns-clause-listed g c rest = sym (rw (drop_of_length-le c.args.places.now c.loop-place-test.false) at (c.loop-place.invariant.listed rest))

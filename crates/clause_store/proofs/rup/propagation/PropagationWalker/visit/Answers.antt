@@ -6,7 +6,7 @@ use Rattle.clause_store.specs.Lits.{lits_of}
 use Rattle.clause_store.proofs.IdleLemmas.{lengthens_then_longer}
 use Rattle.clause_store.proofs.TraceLemmas.{is_looked, lists-falsified, lists-idle, lists-unit}
 use Rattle.clause_store.proofs.StatusLemmas.{unit-added, unit-known, unit-step}
-use Rattle.clause_store.proofs.rup.walk.visit_clause.Goals as goal
+use Rattle.clause_store.proofs.rup.propagation.PropagationWalker.visit.Goals as goal
 
 pub overwrite-requires-clause-known : goal.overwrite-requires-clause-known
 overwrite-requires-clause-known c =
@@ -51,4 +51,4 @@ pub returns-in_ok-overwrite-in-Unit-clause-lengthens : goal.returns-in_ok-overwr
 returns-in_ok-overwrite-in-Unit-clause-lengthens c = λ _.
     let listed = c.in_ok-list_units.ensures in
     let longer = c.in_ok-overwrite-in-Unit.ensures.longer in
-    record { units = lengthens_then_longer _ _ _ _ _ _ listed.lengthens longer; ids = lengthens_then_longer _ _ _ _ _ _ listed.lengthens_ids longer }
+    record { units = lengthens_then_longer _ _ _ _ _ _ listed.lengthens longer; listed = lengthens_then_longer _ _ _ _ _ _ listed.lengthens_ids longer }

@@ -5,8 +5,8 @@ use Rattle.clause_store.specs.StateOf.{stored_units}
 use Rattle.clause_store.specs.Units.{lit_value}
 use Rattle.clause_store.proofs.AssumeLemmas.{assume-all, assume-met, assume-skip, assume-step, is_undoable_then, known-at, none_true-step}
 use Rattle.clause_store.proofs.UnitsLemmas.{true_lits-truth, truth}
-use Rattle.clause_store.proofs.rup.untraced.assume_free.Goals as goal
-use Rattle.clause_store.proofs.rup.untraced.assume_free.Goals.{in-None+in_ok-give-in-None, in-Some-false}
+use Rattle.clause_store.proofs.rup.untraced.FreeTrailWalker.assume.Goals as goal
+use Rattle.clause_store.proofs.rup.untraced.FreeTrailWalker.assume.Goals.{in-None+in_ok-give-in-None, in-Some-false}
 
 pub known_lit_value-requires : goal.known_lit_value-requires
 known_lit_value-requires c = known-at c.args.lits.now c.loop-lit.lit-index c.lit-item.result (length c.loop-lit.units)
@@ -23,7 +23,7 @@ loop-lit-preserved c =
     elim c.match-known_lit_value.branch [
       | in-Some-false w ↦
           let value : lit_value us m ≡ Some false = sym c.known_lit_value.ensures ∙ w.in-Some-false.is ∙ ap Some w.in-Some-false.field-0-test in
-          rw (w.units-is, w.trail-is) (record {
+          rw (w.units-is, w.self-is) (record {
             same = assume-skip us _ c.args.lits.now c.loop-lit.lit-index m c.loop-lit-test.true c.lit-item.is value inv.same;
             none_true = none_true-step us _ c.args.lits.now c.loop-lit.lit-index m c.loop-lit-test.true c.lit-item.is
                 (true_lits-truth us m ∙ ap truth value) inv.same inv.none_true;
@@ -32,7 +32,7 @@ loop-lit-preserved c =
       | in-None+in_ok-give-in-None w ↦
           let given = w.in_ok-give-in-None.ensures.ok in
           let off = true_lits-truth us m ∙ ap truth (sym c.known_lit_value.ensures ∙ w.in-None.is) in
-          rw (w.units-is, w.trail-is) (record {
+          rw (w.units-is, w.self-is) (record {
             same = assume-step us _ _ c.args.lits.now c.loop-lit.lit-index m given.0 c.loop-lit-test.true c.lit-item.is known
                 (given.1 ∙ w.is_negative.ensures) given.2 off inv.same;
             none_true = none_true-step us _ c.args.lits.now c.loop-lit.lit-index m c.loop-lit-test.true c.lit-item.is off inv.same inv.none_true;
