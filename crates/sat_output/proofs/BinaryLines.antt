@@ -20,7 +20,7 @@ use Rattle.lrat_binary.specs.Reading.{goes_on, line_then}
 use Rattle.lrat_binary.proofs.CodeLemmas.{begun_read}
 use Rattle.sat_output.specs.LratBytes.{BytesAreRead, HasBinaryNumbers, IsBinaryHint, IsBinaryId, groups, hint_number, line_bytes, lines_bytes, lit_number, number_bytes, numbers_bytes}
 use Rattle.sat_output.specs.LratTexts.{numbered}
-use Rattle.sat_output.specs.Words.{IsCode}
+use Rattle.written_numbers.specs.Words.{IsCode}
 use Rattle.sat_formula.proofs.GroupedBytes.{group_large, group_small, next_small}
 use Rattle.sat_output.proofs.Groups.{are_groups}
 use Rattle.sat_output.proofs.LratLines.{hint_back, hints_back}

@@ -3,5 +3,4 @@ pub mod BinaryLines
 pub mod FormulaLines
 pub mod Groups
 pub mod LratLines
-pub mod SpacedWords
 pub mod WrittenClauses

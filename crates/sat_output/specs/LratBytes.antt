@@ -11,8 +11,8 @@ use Rattle.lrat_text.specs.Texts.{Ended}
 use Rattle.lrat_binary.specs.Lines.{binary_of}
 use Rattle.lrat_binary.specs.Places.{letter_a, letter_d}
 use Rattle.lrat_binary.specs.declared.ids.Ids.TheVariants.{Plain}
+use Rattle.written_numbers.specs.Words.{IsCode}
 use Rattle.sat_output.specs.LratTexts.{numbered}
-use Rattle.sat_output.specs.Words.{IsCode}
 
 -- seven bits a byte, the low ones first, with 128 added to each byte but the last
 unfoldable pub groups : ℕ → ℕ → List ℕ

@@ -1,0 +1,4 @@
+//! Numbers and literals as they are written.
+#![tactic(auto)]
+
+pub mod words;
