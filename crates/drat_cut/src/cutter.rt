@@ -2,13 +2,14 @@
 use crate::clause::ReadClause;
 use crate::fault::CutFault;
 use crate::live::LiveClauses;
-use crate::text::{push_clause, push_lits};
+use crate::text::push_clause;
 use crate::units::Units;
 use drat_text::DratStep;
 use sat_formula::Lit;
 use std::alloc::Global;
 use std::io::Write;
 use std::{io, mem};
+use written_numbers::words::push_literals;
 
 /// How the additions of a proof are read.
 #[derive(Clone, Copy, PartialEq, Eq)]
@@ -150,7 +151,7 @@ impl Cutter {
         let slot = self.live.put(&self.read)?;
         self.units.attach(&mut self.live.slots, slot)?;
         self.text.clear();
-        push_lits(&mut self.text, &self.read.lits)?;
+        push_literals(&mut self.text, &self.read.lits)?;
         push_clause(&mut self.text, &self.witness)?;
         Ok(Taken::Lemma)
     }

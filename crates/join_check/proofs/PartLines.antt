@@ -5,7 +5,7 @@ use Rattle.std.proofs.lemmas.List.Elements.{All-append, All-cons, All-map, All-n
 use Rattle.refutation_rules.specs.Cubes.{clause_against, units_of}
 use Rattle.receipts.specs.Joins.{part_text}
 use Rattle.sat_output.specs.FormulaTexts.{ClausesAreRead, clause_text, clauses_text}
-use Rattle.sat_output.specs.Words.{IsCode}
+use Rattle.written_numbers.specs.Words.{IsCode}
 use Rattle.sat_rules.specs.Clauses.{negate}
 use Rattle.sha2.specs.Sha256.{sha256}
 use Rattle.join_check.specs.Hashed.{HasTaken, Takes}

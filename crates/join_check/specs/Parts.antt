@@ -7,7 +7,7 @@ use Rattle.sha2.specs.Sha256.{sha256}
 use Rattle.sat_formula.specs.Lines.{outcome_of}
 use Rattle.sat_formula.specs.Outcome.{Ended}
 use Rattle.sat_output.specs.FormulaTexts.{clauses_text}
-use Rattle.sat_output.specs.Words.{IsCode}
+use Rattle.written_numbers.specs.Words.{IsCode}
 use Rattle.receipts.specs.Joins.{part_text}
 use Rattle.join_check.specs.declared.part_texts.PartTexts.{PartTexts}
 

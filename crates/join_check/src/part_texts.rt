@@ -2,7 +2,7 @@
 ghost use Rattle.std.specs.Prelude.{◌≡◌, ℕ, List, All, IfOk, map};
 ghost use Rattle.sha2.specs.Hashers.{Holds256};
 ghost use Rattle.refutation_rules.specs.Cubes.{clause_against, units_of};
-ghost use Rattle.sat_output.specs.Words.{IsCode};
+ghost use Rattle.written_numbers.specs.Words.{IsCode};
 ghost use Rattle.join_check.specs.Parts.{ArePartTexts, IsPartDigest};
 
 use crate::line_hasher::LineHasher;

@@ -2,10 +2,10 @@
 ghost use Rattle.std.specs.Prelude.{◌≡◌, IfOk};
 ghost use Rattle.join_check.specs.Verdicts.{shown_line, shows_unsat};
 
-use itoa::Buffer;
 use std::alloc::{AllocError, Global};
 use thiserror::Error;
 use verdicts::Claims;
+use written_numbers::words::push_decimal;
 
 /// Whether receipts show that no assignment satisfies a formula.
 #[derive(Clone, Copy, Debug, PartialEq, Eq)]
@@ -51,8 +51,7 @@ fn verified_line(alloc: Global, receipts: u64) -> Result<Vec<u8>, AllocError>
     ensures { IfOk result (λ line. line.items ≡ shown_line (Verdict.Verified receipts)) }
 {
     let mut line = Vec::from_slice(alloc, b"s VERIFIED UNSAT BY ")?;
-    let mut buffer = Buffer::new();
-    line.extend_from_slice(buffer.format(receipts).as_bytes())?;
+    push_decimal(&mut line, receipts)?;
     line.extend_from_slice(b" RECEIPTS\n")?;
     Ok(line)
 }

@@ -9,13 +9,14 @@ use Rattle.checker_rules.specs.Step.{Step, by_redundant, by_satisfied, user_var_
 use Rattle.proof_bytes.specs.declared.fault.MalformedStep.TheVariants.{UnknownTag, BadNumber, OutOfRange}
 use Rattle.proof_bytes.specs.declared.format.Format.TheVariants.{Numbers, Bytes}
 use Rattle.proof_bytes.specs.Reading.{Fault, Short, Wrong, number_at}
-use Rattle.proof_bytes.specs.Spelling.{number, all_fit, hashes_of}
+use Rattle.written_numbers.specs.GroupedBytes.{number_bytes}
+use Rattle.proof_bytes.specs.Spelling.{all_fit, hashes_of}
 use Rattle.proof_bytes.specs.Texts.{ReadsTo, next_of, start_of}
 use Rattle.proof_bytes.specs.Version2.{text_2, writing, written_after}
 
 -- the number is written so, and nothing else is read as it
 abbrev pub Stands : ℕ → List ℕ → Type 0
-Stands n bytes = (number n ≡ bytes) × (number_at bytes ≡ Ok (n, []))
+Stands n bytes = (number_bytes n ≡ bytes) × (number_at bytes ≡ Ok (n, []))
 
 -- a text of version 1 is this one step
 abbrev pub IsOne : List ℕ → Step → Type 0

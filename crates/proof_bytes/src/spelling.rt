@@ -4,10 +4,11 @@
 ghost use Rattle.std.specs.Prelude.{◌≡◌, ◌++◌, ◌<◌, ◌≤◌, ◌^◌, true, map, OnOk};
 ghost use Rattle.sat_formula.specs.Vars.{index_of, indexes_of};
 ghost use Rattle.proof_bytes.specs.Formats.{bytes_of, IsFormat};
-ghost use Rattle.proof_bytes.specs.Growing.{Grows};
 ghost use Rattle.proof_bytes.specs.NextStep.{view, why};
 ghost use Rattle.proof_bytes.specs.Version2.{writing, mark};
-ghost use Rattle.proof_bytes.specs.Spelling.{all_fit, hashes_of, IsStep, IsName, IsUnit, AreLits, AreHashes, Listed, spells, fields_of, number, numbers, flag, name, justification, listed, hash, unit, little};
+ghost use Rattle.proof_bytes.specs.Spelling.{all_fit, hashes_of, IsStep, IsName, IsUnit, AreLits, AreHashes, Listed, spells, fields_of, numbers, flag, name, justification, listed, hash, unit, little};
+ghost use Rattle.written_numbers.specs.GroupedBytes.{number_bytes};
+ghost use Rattle.written_numbers.specs.Growing.{Grows};
 
 use crate::format::Format;
 use crate::hash::ClauseHash;
@@ -15,6 +16,7 @@ use crate::step::{DeleteClauseProof, ProofStep};
 use crate::tag;
 use sat_formula::{Lit, Var};
 use std::alloc::AllocError;
+use written_numbers::groups::push_number;
 
 fn push_step(out: &mut Vec<u8>, format: Format, step: &ProofStep) -> Result<(), AllocError>
     requires in_force { IsFormat format }
@@ -89,7 +91,8 @@ fn push_fields(out: &mut Vec<u8>, format: Format, step: &ProofStep) -> Result<()
 
 fn push_naming(out: &mut Vec<u8>, global: Var, named: Option<Var>) -> Result<(), AllocError>
     ensures ok { OnOk result (out.new.items
-        ≡ out.old.items ++ (number (index_of global) ++ number (name (indexes_of named)))) }
+        ≡ out.old.items ++ (number_bytes (index_of global)
+        ++ number_bytes (name (indexes_of named)))) }
     ensures fits { (index_of global < 2 ^ 28) × IsName (indexes_of named) }
     ensures grows { Grows out.old.items out.new.items }
 {
@@ -115,14 +118,14 @@ fn push_check(
 }
 
 fn push_flag(out: &mut Vec<u8>, b: bool) -> Result<(), AllocError>
-    ensures ok { OnOk result (out.new.items ≡ out.old.items ++ number (flag b)) }
+    ensures ok { OnOk result (out.new.items ≡ out.old.items ++ number_bytes (flag b)) }
     ensures grows { Grows out.old.items out.new.items }
 {
     push_number(out, b as u64)
 }
 
 fn push_var(out: &mut Vec<u8>, var: Var) -> Result<(), AllocError>
-    ensures ok { OnOk result (out.new.items ≡ out.old.items ++ number (index_of var)) }
+    ensures ok { OnOk result (out.new.items ≡ out.old.items ++ number_bytes (index_of var)) }
     ensures fits { index_of var < 2 ^ 28 }
     ensures grows { Grows out.old.items out.new.items }
 {
@@ -130,7 +133,8 @@ fn push_var(out: &mut Vec<u8>, var: Var) -> Result<(), AllocError>
 }
 
 fn push_name(out: &mut Vec<u8>, named: Option<Var>) -> Result<(), AllocError>
-    ensures ok { OnOk result (out.new.items ≡ out.old.items ++ number (name (indexes_of named))) }
+    ensures ok { OnOk result (out.new.items
+        ≡ out.old.items ++ number_bytes (name (indexes_of named))) }
     ensures fits { IsName (indexes_of named) }
     ensures grows { Grows out.old.items out.new.items }
 {
@@ -141,7 +145,8 @@ fn push_name(out: &mut Vec<u8>, named: Option<Var>) -> Result<(), AllocError>
 }
 
 fn push_justification(out: &mut Vec<u8>, proof: DeleteClauseProof) -> Result<(), AllocError>
-    ensures ok { OnOk result (out.new.items ≡ out.old.items ++ number (justification (why proof))) }
+    ensures ok { OnOk result (out.new.items
+        ≡ out.old.items ++ number_bytes (justification (why proof))) }
     ensures grows { Grows out.old.items out.new.items }
 {
     match proof {
@@ -149,23 +154,6 @@ fn push_justification(out: &mut Vec<u8>, proof: DeleteClauseProof) -> Result<(),
         DeleteClauseProof::Satisfied => push_number(out, 1),
         DeleteClauseProof::Simplified => push_number(out, 2),
     }
-}
-
-fn push_number(out: &mut Vec<u8>, n: u64) -> Result<(), AllocError>
-    ensures ok { OnOk result (out.new.items ≡ out.old.items ++ number n) }
-    ensures grows { Grows out.old.items out.new.items }
-{
-    let mut rest = n;
-    'groups: for _ in 0..9u8 {
-        if rest < 128 {
-            out.push(rest as u8)?;
-            return Ok(());
-        }
-        out.push(128 + (rest % 128) as u8)?;
-        rest /= 128;
-    }
-    out.push(rest as u8)?;
-    Ok(())
 }
 
 fn push_lits(out: &mut Vec<u8>, lits: &[Lit]) -> Result<(), AllocError>

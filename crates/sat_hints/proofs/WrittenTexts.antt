@@ -1,6 +1,6 @@
 -- What is written of lines is read again, and the text of a run is accepted.
 use Rattle.std.proofs.Common.{◌≡◌, ℕ, suc, ◌+◌, ◌^◌, ◌<◌, Bool, true, false, cond, List, [], ◌∷◌, ◌++◌, length, map, Option, Some, None, refl, sym, arith}
-use Rattle.std.specs.Prelude.{All, is_some, take}
+use Rattle.std.specs.Prelude.{All, decimal, is_some, take}
 use Rattle.std.specs.List.{list_any}
 use Rattle.std.proofs.lemmas.Bool.{leb-false, or_parts}
 use Rattle.std.proofs.lemmas.List.Elements.{All-append, All-cons, All-head, All-nil, All-tail}
@@ -14,10 +14,11 @@ use Rattle.checker_rules.proofs.WrittenLineFacts.{lines_follow}
 use Rattle.sat_formula.specs.Lines.{lines_of}
 use Rattle.hint_rules.specs.Accepted.{said_all}
 use Rattle.sat_hints.specs.Writing.{first_fault}
-use Rattle.sat_hints.specs.WrittenText.{HasFittingNumbers, IsId, lines_text, text_of}
+use Rattle.written_numbers.specs.Words.{IsId}
+use Rattle.written_numbers.proofs.SpacedWords.{lines_of-line_text}
+use Rattle.sat_hints.specs.WrittenText.{HasFittingNumbers, first_number, further_words, lines_text}
 use Rattle.sat_hints.specs.WrittenTexts.{HasFittingCodes, TextIsAccepted, TextIsRead}
-use Rattle.sat_formula.proofs.WrittenWords.{lines_of-line}
-use Rattle.sat_hints.proofs.WrittenLines.{text_in_line, written_is_read}
+use Rattle.sat_hints.proofs.WrittenLines.{are_words, written_is_read}
 
 -- ---- reading
 
@@ -25,7 +26,7 @@ pub text_is_read : TextIsRead
 text_is_read [] fit = refl
 text_is_read (x ∷ xs) fit =
     let this = All-head HasFittingNumbers x xs fit in
-    rw (lines_of-line (text_of x) (lines_text xs) (text_in_line x this), written_is_read x this, text_is_read xs (All-tail HasFittingNumbers x xs fit)) refl
+    rw (lines_of-line_text (decimal (first_number x) ∷ further_words x) (lines_text xs) (are_words x this), written_is_read x this, text_is_read xs (All-tail HasFittingNumbers x xs fit)) refl
 
 -- ---- a writer without a fault
 

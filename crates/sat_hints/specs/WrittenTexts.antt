@@ -12,7 +12,8 @@ use Rattle.checker_rules.specs.WrittenLines.{new_writer, no_input}
 use Rattle.sat_formula.specs.Lines.{lines_of}
 use Rattle.hint_rules.specs.Accepted.{Accepts, said_all}
 use Rattle.sat_hints.specs.Writing.{first_fault}
-use Rattle.sat_hints.specs.WrittenText.{HasFittingNumbers, IsCode, lines_text}
+use Rattle.written_numbers.specs.Words.{IsCode}
+use Rattle.sat_hints.specs.WrittenText.{HasFittingNumbers, lines_text}
 
 -- what is written of lines is read as those lines
 abbrev pub TextIsRead : Type 0

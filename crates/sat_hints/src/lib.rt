@@ -3,7 +3,6 @@
 
 mod fault;
 pub mod laws;
-mod text;
 mod writer;
 
 pub use fault::WriterFault;

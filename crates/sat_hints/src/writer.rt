@@ -4,16 +4,17 @@ ghost use Rattle.checker_parts.specs.CheckedSteps.{step_of};
 ghost use Rattle.sat_rules.specs.HintLines.{adds_clause, deletes_clauses};
 ghost use Rattle.checker_rules.specs.HintRun.{puts_derived, puts_input, removes};
 ghost use Rattle.checker_rules.specs.WrittenLines.{new_writer, number_of, writer_fault};
-ghost use Rattle.sat_hints.specs.WrittenText.{words_after_space, lines_text};
+ghost use Rattle.sat_hints.specs.WrittenText.{lines_text};
 ghost use Rattle.sat_hints.specs.Writing.{IsFault, Wrote, WroteLine, WroteNothing, fitting, hints_fault, step_fault, writer_of, written};
+ghost use Rattle.written_numbers.specs.Words.{spaced};
 
 use crate::fault::WriterFault;
-use crate::text::{push_literals, push_number};
 use checker_parts::processor::{CheckerData, ProofProcessor};
 use checker_parts::step::CheckedProofStep;
 use sat_formula::lit::Lit;
 use std::alloc::{AllocError, Global};
 use std::collections::HashSet;
+use written_numbers::words::{push_literals, push_number};
 
 /// Writes the steps that it receives as lines of hints in the LRAT format.
 ///
@@ -160,9 +161,9 @@ impl LratWriter {
         let mut line = Vec::new(self.alloc);
         push_number(&mut line, number)?;
         push_literals(&mut line, clause)?;
-        line.extend_from_slice(b" 0")?;
+        line.extend_from_slice(b"0 ")?;
         self.push_hints(&mut line, propagations)?;
-        line.extend_from_slice(b" 0\n")?;
+        line.extend_from_slice(b"0\n")?;
         Ok(line)
     }
 
@@ -173,16 +174,16 @@ impl LratWriter {
     {
         let mut line = Vec::new(self.alloc);
         push_number(&mut line, self.last)?;
-        line.extend_from_slice(b" d ")?;
+        line.extend_from_slice(b"d ")?;
         push_number(&mut line, number)?;
-        line.extend_from_slice(b" 0\n")?;
+        line.extend_from_slice(b"0\n")?;
         Ok(line)
     }
 
-    /// Appends the number of each id after a space.
+    /// Appends the number of each id, and a space after it.
     fn push_hints(&self, line: &mut Vec<u8>, ids: &[u64]) -> Result<(), WriterFault>
         ensures line { OnOk result (line.new.items
-            ≡ line.old.items ++ words_after_space
+            ≡ line.old.items ++ spaced
             (map decimal (map (number_of (writer_of self.now)) ids.now))) }
         ensures fit { OnOk result (hints_fault (writer_of self.now) ids.now ≡ None) }
         ensures fault { IfErr result (λ fault. IsFault fault
@@ -190,7 +191,6 @@ impl LratWriter {
     {
         for id in ids {
             let number = self.number(*id).ok_or(WriterFault::NumberOutOfRange)?;
-            line.push(b' ')?;
             push_number(line, number)?;
         }
         Ok(())

@@ -18,11 +18,11 @@ use Rattle.drat_text.proofs.CodeLemmas.{IsWeight, code_byte, code_partial, code_
 use Rattle.lrat_binary.specs.Places.{DeletedDue, HintDue, IdDue, LitDue, Outside, Slot, Within, said}
 use Rattle.lrat_binary.specs.Reading.{goes_on, line_then}
 use Rattle.lrat_binary.proofs.CodeLemmas.{begun_read}
-use Rattle.sat_output.specs.LratBytes.{BytesAreRead, HasBinaryNumbers, IsBinaryHint, IsBinaryId, groups, hint_number, line_bytes, lines_bytes, lit_number, number_bytes, numbers_bytes}
+use Rattle.sat_output.specs.LratBytes.{BytesAreRead, HasBinaryNumbers, IsBinaryHint, IsBinaryId, hint_number, line_bytes, lines_bytes, lit_number, numbers_bytes}
 use Rattle.sat_output.specs.LratTexts.{numbered}
-use Rattle.sat_output.specs.Words.{IsCode}
-use Rattle.sat_formula.proofs.GroupedBytes.{group_large, group_small, next_small}
-use Rattle.sat_output.proofs.Groups.{are_groups}
+use Rattle.written_numbers.specs.GroupedBytes.{groups, number_bytes}
+use Rattle.written_numbers.specs.Words.{IsCode}
+use Rattle.written_numbers.proofs.GroupedBytes.{group_large, group_small, next_small}
 use Rattle.sat_output.proofs.LratLines.{hint_back, hints_back}
 
 -- ---- numbers
@@ -41,7 +41,7 @@ last_group : (left n v w : ℕ) (more : List ℕ) → n < 128 → code_at (2 ^ 5
 unfolding code_then
 last_group left n v w more lt =
     let same : n % 128 ≡ n = omega arith in
-    rw (group_small groups are_groups left n lt, code_byte (2 ^ 56) v w n more, code_whole (2 ^ 56) v w n lt, same) refl
+    rw (group_small left n lt, code_byte (2 ^ 56) v w n more, code_whole (2 ^ 56) v w n lt, same) refl
 
 groups_read : (i left n v w : ℕ) (more : List ℕ) → left + i ≡ 9 → n < 2 ^ (64 - 7 * i) → IsWeight (2 ^ 56) w → n * w < 2 ^ 63 →
     code_at (2 ^ 56) v w (groups left n ++ more) ≡ (Whole (v + n * w), more)
@@ -60,7 +60,7 @@ groups_read i (suc left) n v w more e few is lt = elim (cases_Bool (nat_lt n 128
       let rest = groups_read (i + 1) left (n / 128) (v + (x % 128) * w) (w * 128) more (omega arith)
       (next_small i n (omega arith) few) (next_weight (2 ^ 56) w is other) (rest_small n w lt) in
       rw (
-        group_large groups are_groups (suc left) left n refl le,
+        group_large (suc left) left n refl le,
         code_byte (2 ^ 56) v w x (groups left (n / 128) ++ more),
         code_partial (2 ^ 56) v w x (omega arith) other,
         rest,

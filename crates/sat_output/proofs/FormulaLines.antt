@@ -10,10 +10,10 @@ use Rattle.sat_formula.specs.Formula.{var_count_of, vars_with}
 use Rattle.sat_formula.specs.Lines.{TokenLine, is_header, kind_of_line, lines_from, lines_of, token_of_word, token_then, tokens_from, words_of}
 use Rattle.sat_formula.specs.Outcome.{Ended, Outcome, next_line, with_clause}
 use Rattle.sat_formula.specs.Vars.{lit_code}
-use Rattle.sat_formula.proofs.WrittenWords.{IsWord, decimal_is, decimal_is_word, digits_value, lines_of-line, literal_by, literal_is_word, word_in_line, words_are, words_of-last, words_of-word, zero_is_word}
+use Rattle.written_numbers.specs.Words.{IsCode, literal_text, spaced_word}
+use Rattle.written_numbers.proofs.SpacedWords.{first_of_spaced, lines_of-line_text, words_of-line_text}
+use Rattle.written_numbers.proofs.WrittenWords.{IsWord, decimal_is, decimal_is_word, digits_value, lines_of-line, literal_by, literal_is_word, word_in_line, words_are, words_of-last, words_of-word}
 use Rattle.sat_output.specs.FormulaTexts.{ClausesAreRead, FormulaIsRead, clause_text, clauses_text, header_text}
-use Rattle.sat_output.specs.Words.{IsCode, literal_text, spaced_word}
-use Rattle.sat_output.proofs.SpacedWords.{first_of_spaced, one_line-spaced, words_of-spaced}
 
 -- ---- literals
 
@@ -61,7 +61,7 @@ clause_kind (l ∷ c) all = rw first_of_spaced (literal_kind l _ (All-head IsCod
 one_clause : (n : ℕ) (seen : Bool) (c : List ℕ) (ls : List (List ℕ)) → All IsCode c → lines_from n seen [] (clause_text c ∷ ls) ≡ with_clause c (lines_from (next_line n) true [] ls)
 unfolding lines_from
 one_clause n seen c ls all =
-    rw (clause_kind c all, words_of-spaced (map literal_text c) (codes "0") (clause_words c all) zero_is_word)
+    rw (clause_kind c all, words_of-line_text (map literal_text c) (clause_words c all))
     (tokens_read (next_line n) [] c (λ still. lines_from (next_line n) true still ls) all)
 
 clauses_read : (n : ℕ) (cs : List (List ℕ)) → All (All IsCode) cs → lines_from n true [] (lines_of (clauses_text cs)) ≡ (cs, Ended)
@@ -69,9 +69,8 @@ unfolding lines_from
 clauses_read n [] all = refl
 clauses_read n (c ∷ cs) all =
     let this = All-head (All IsCode) c cs all in
-    let in_line = one_line-spaced (map literal_text c) (codes "0") (clause_words c this) zero_is_word in
     let rest = clauses_read (next_line n) cs (All-tail (All IsCode) c cs all) in
-    rw (lines_of-line (clause_text c) (clauses_text cs) in_line, one_clause n true c (lines_of (clauses_text cs)) this, rest) refl
+    rw (lines_of-line_text (map literal_text c) (clauses_text cs) (clause_words c this), one_clause n true c (lines_of (clauses_text cs)) this, rest) refl
 
 -- without a header
 pub clauses_are_read : ClausesAreRead
@@ -79,9 +78,8 @@ unfolding lines_from
 clauses_are_read [] all = refl
 clauses_are_read (c ∷ cs) all =
     let this = All-head (All IsCode) c cs all in
-    let in_line = one_line-spaced (map literal_text c) (codes "0") (clause_words c this) zero_is_word in
     let rest = clauses_read (next_line 0) cs (All-tail (All IsCode) c cs all) in
-    rw (lines_of-line (clause_text c) (clauses_text cs) in_line, one_clause 0 false c (lines_of (clauses_text cs)) this, rest) refl
+    rw (lines_of-line_text (map literal_text c) (clauses_text cs) (clause_words c this), one_clause 0 false c (lines_of (clauses_text cs)) this, rest) refl
 
 -- ---- the header
 

@@ -1,7 +1,5 @@
 pub mod Beginnings
 pub mod BinaryLines
 pub mod FormulaLines
-pub mod Groups
 pub mod LratLines
-pub mod SpacedWords
 pub mod WrittenClauses

@@ -15,10 +15,10 @@ use Rattle.lrat_text.specs.Texts.{Ended, lines_from, short_before}
 use Rattle.sat_formula.specs.Lines.{lines_of}
 use Rattle.sat_formula.specs.Outcome.{next_line}
 use Rattle.sat_formula.specs.Vars.{lit_code}
-use Rattle.sat_formula.proofs.WrittenWords.{IsWord, decimal_is, decimal_is_word, digits_value, lines_of-line, literal_by, literal_is_word, literal_no_d, signed_is_word, words_are, zero_is_word}
-use Rattle.sat_output.specs.LratTexts.{HasFittingNumbers, IsHint, LinesAreRead, last_after, line_text, lines_text, numbered, words_before_end}
-use Rattle.sat_output.specs.Words.{IsCode, IsId, hint_text, literal_text}
-use Rattle.sat_output.proofs.SpacedWords.{one_line-spaced, words_of-spaced}
+use Rattle.written_numbers.specs.Words.{IsCode, IsId, line_text, literal_text}
+use Rattle.written_numbers.proofs.SpacedWords.{lines_of-line_text, words_of-line_text}
+use Rattle.written_numbers.proofs.WrittenWords.{IsWord, decimal_is, decimal_is_word, digits_value, literal_by, literal_is_word, literal_no_d, signed_is_word, words_are, zero_is_word}
+use Rattle.sat_output.specs.LratTexts.{HasFittingNumbers, IsHint, LinesAreRead, hint_text, last_after, lines_text, numbered, words_before_end}
 
 -- ---- numbers
 
@@ -129,8 +129,8 @@ lines_read n last (x ∷ xs) low fit =
     let are = line_words last x low this in
     let rest = lines_text (last_after last x) xs in
     rw (
-      lines_of-line (line_text words) rest (one_line-spaced words (codes "0") are zero_is_word),
-      words_of-spaced words (codes "0") are zero_is_word,
+      lines_of-line_text words rest are,
+      words_of-line_text words are,
       line_said (short_before (lines_of rest)) last x low this,
       lines_read (next_line n) (last_after last x) xs (last_low last x low this) (All-tail HasFittingNumbers x xs fit),
     ) refl

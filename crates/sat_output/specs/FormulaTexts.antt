@@ -7,7 +7,7 @@ use Rattle.std.specs.Prelude.{◌≡◌, ℕ, ◌^◌, ◌<◌, List, [], ◌∷
 use Rattle.sat_formula.specs.Formula.{var_count_of}
 use Rattle.sat_formula.specs.Lines.{outcome_of}
 use Rattle.sat_formula.specs.Outcome.{Ended}
-use Rattle.sat_output.specs.Words.{IsCode, literal_text, spaced, spaced_word}
+use Rattle.written_numbers.specs.Words.{IsCode, line_text, literal_text, spaced_word}
 
 -- the numbers of variables and of clauses
 abbrev pub header_text : List (List ℕ) → List ℕ
@@ -16,7 +16,7 @@ header_text clauses = codes "p cnf " ++ spaced_word (decimal (var_count_of claus
 
 -- literals and a 0
 abbrev pub clause_text : List ℕ → List ℕ
-clause_text c = spaced (map literal_text c) ++ codes "0"
+clause_text c = line_text (map literal_text c)
 
 -- clauses, each with its LF
 abbrev pub clauses_text : List (List ℕ) → List ℕ

@@ -3,4 +3,3 @@ pub mod FormulaTexts
 pub mod LineForms
 pub mod LratBytes
 pub mod LratTexts
-pub mod Words

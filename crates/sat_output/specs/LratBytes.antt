@@ -1,27 +1,19 @@
 -- The bytes of LRAT lines in the binary form, with plain ids.
---     groups left n, number_bytes n, numbers_bytes ns      a number in at most this many bytes and one more, a number below 2^64, numbers
+--     numbers_bytes ns      numbers
 --     lit_number l, hint_number h      the number of a literal, by its code, and that of a hint
 --     line_bytes x, lines_bytes xs      a line, and lines
 --     HasLargeHint x      the number of a hint is none of 64 bits
 --     HasBinaryNumbers x      what the numbers of a line can say, in nine bytes each
 --     BytesAreRead      the bytes of such lines are read as those lines
-use Rattle.std.specs.Prelude.{◌≡◌, ℕ, suc, zero, ◌+◌, ◌*◌, ◌/◌, ◌%◌, ◌^◌, ◌<◌, nat_lt, if◌then◌else◌, ◌≤◌, List, [], ◌∷◌, ◌++◌, map, All, Any}
+use Rattle.std.specs.Prelude.{◌≡◌, ℕ, ◌+◌, ◌*◌, ◌^◌, ◌<◌, ◌≤◌, List, [], ◌∷◌, ◌++◌, map, All, Any}
 use Rattle.lrat_rules.specs.Lines.{Hint, Line, along, against, adds, deletes}
 use Rattle.lrat_text.specs.Texts.{Ended}
 use Rattle.lrat_binary.specs.Lines.{binary_of}
 use Rattle.lrat_binary.specs.Places.{letter_a, letter_d}
 use Rattle.lrat_binary.specs.declared.ids.Ids.TheVariants.{Plain}
+use Rattle.written_numbers.specs.GroupedBytes.{number_bytes}
+use Rattle.written_numbers.specs.Words.{IsCode}
 use Rattle.sat_output.specs.LratTexts.{numbered}
-use Rattle.sat_output.specs.Words.{IsCode}
-
--- seven bits a byte, the low ones first, with 128 added to each byte but the last
-unfoldable pub groups : ℕ → ℕ → List ℕ
-groups zero n = n ∷ []
-groups (suc left) n = if nat_lt n 128 then n ∷ [] else (128 + n % 128) ∷ groups left (n / 128)
-
--- a number: ten bytes at most
-unfoldable pub number_bytes : ℕ → List ℕ
-number_bytes n = groups 9 n
 
 -- numbers
 abbrev pub numbers_bytes : List ℕ → List ℕ

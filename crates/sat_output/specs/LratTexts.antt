@@ -1,6 +1,6 @@
 -- The text of LRAT lines.
+--     hint_text h      a hint
 --     addition_words, deletion_words      the words of a line before its last 0
---     line_text ws      a line of these words, without its LF
 --     last_after last x      the number in front of a deletion that follows a line
 --     lines_text last xs      lines, each with its LF, where a deletion has the number of the last addition in front
 --     HasFittingNumbers x      what the words of a line can say
@@ -9,8 +9,14 @@
 use Rattle.std.specs.Prelude.{◌≡◌, ℕ, ◌^◌, ◌<◌, List, [], ◌∷◌, ◌++◌, map, codes, decimal, All}
 use Rattle.lrat_rules.specs.Lines.{Hint, Line, along, against, adds, deletes}
 use Rattle.lrat_text.specs.Texts.{Ended, outcome_of}
+use Rattle.sat_formula.specs.Bytes.{minus_sign}
 use Rattle.sat_formula.specs.Outcome.{next_line}
-use Rattle.sat_output.specs.Words.{IsCode, IsId, hint_text, literal_text, spaced}
+use Rattle.written_numbers.specs.Words.{IsCode, IsId, line_text, literal_text}
+
+-- a hint: an id, after a `-` where a group begins
+abbrev pub hint_text : Hint → List ℕ
+hint_text (along id) = decimal id
+hint_text (against id) = minus_sign ∷ decimal id
 
 -- the words of an addition before its last 0: id, literals, 0, hints
 abbrev pub addition_words : ℕ → List ℕ → List Hint → List (List ℕ)
@@ -20,10 +26,6 @@ addition_words id c hints =
 -- the words of a deletion before its last 0: a number, d, ids
 abbrev pub deletion_words : ℕ → List ℕ → List (List ℕ)
 deletion_words last ids = decimal last ∷ codes "d" ∷ map decimal ids
-
--- a line of these words and a last 0
-abbrev pub line_text : List (List ℕ) → List ℕ
-line_text words = spaced words ++ codes "0"
 
 -- the words of a line before its last 0
 abbrev pub words_before_end : ℕ → Line → List (List ℕ)

@@ -3,13 +3,15 @@ ghost use Rattle.std.specs.Prelude.{◌≡◌, ◌++◌, ◌^◌, ◌<◌, map, 
 ghost use Rattle.lrat_rules.specs.Lines.{adds, deletes};
 ghost use Rattle.lrat_text.specs.Grammar.{hint_of};
 ghost use Rattle.lrat_text.specs.NextLine.{view};
-ghost use Rattle.sat_output.specs.LratBytes.{HasLargeHint, hint_id, hint_number, line_bytes, lit_number, number_bytes, numbers_bytes};
+ghost use Rattle.sat_output.specs.LratBytes.{HasLargeHint, hint_id, hint_number, line_bytes, lit_number, numbers_bytes};
+ghost use Rattle.written_numbers.specs.GroupedBytes.{number_bytes};
 
 use lrat_text::{Hint, LratLine};
 use sat_formula::Lit;
 use std::alloc::{AllocError, Global};
 use std::io;
 use std::io::ErrorKind;
+use written_numbers::groups::push_number;
 
 /// Returns the bytes of a line. Of a hint with an id of 2^63 or more there are none: `InvalidData`.
 pub(crate) fn bytes_of(alloc: Global, line: LratLine<'_>) -> io::Result<Vec<u8>>
@@ -47,23 +49,6 @@ fn deletion(alloc: Global, ids: &[u64]) -> io::Result<Vec<u8>>
     push_numbers(&mut bytes, ids)?;
     bytes.push(0)?;
     Ok(bytes)
-}
-
-/// Appends a number: seven bits a byte, the low ones first.
-fn push_number(bytes: &mut Vec<u8>, number: u64) -> Result<(), AllocError>
-    ensures { OnOk result (bytes.new.items ≡ bytes.old.items ++ number_bytes number) }
-{
-    let mut rest = number;
-    'groups: for _ in 0..9u8 {
-        if rest < 128 {
-            bytes.push(rest as u8)?;
-            return Ok(());
-        }
-        bytes.push(128 + (rest % 128) as u8)?;
-        rest /= 128;
-    }
-    bytes.push(rest as u8)?;
-    Ok(())
 }
 
 /// Appends the number of each literal.

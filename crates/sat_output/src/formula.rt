@@ -5,13 +5,12 @@ ghost use Rattle.sat_output.specs.FormulaTexts.{clause_text, clauses_text, formu
 ghost use Rattle.whole_writes.specs.Beginnings.{AppendsBeginning};
 
 use crate::step::push_addition;
-use crate::words::push_number;
-use itoa::Buffer;
 use sat_formula::{CnfFormula, Lit};
 use std::alloc::{AllocError, Global};
 use std::io;
 use std::io::Write;
 use whole_writes::append_whole;
+use written_numbers::words::{push_decimal, push_number};
 
 /// Writes a formula as DIMACS text: a header with its numbers of variables and of clauses, and a
 /// line for each clause. A buffered writer may keep some of it back.
@@ -60,8 +59,7 @@ fn header(alloc: Global, formula: &CnfFormula) -> Result<Vec<u8>, AllocError>
 {
     let mut text = Vec::from_slice(alloc, b"p cnf ")?;
     push_number(&mut text, formula.var_count() as u64)?;
-    let mut buffer = Buffer::new();
-    text.extend_from_slice(buffer.format(formula.len()).as_bytes())?;
+    push_decimal(&mut text, formula.len() as u64)?;
     text.push(b'\n')?;
     Ok(text)
 }

@@ -5,19 +5,20 @@ ghost use Rattle.lrat_text.specs.Grammar.{hint_of};
 ghost use Rattle.lrat_text.specs.NextLine.{view};
 ghost use Rattle.sat_output.specs.LineForms.{lines_in};
 ghost use Rattle.sat_output.specs.LratBytes.{HasLargeHint};
-ghost use Rattle.sat_output.specs.LratTexts.{addition_words, deletion_words, last_after, line_text, lines_text};
-ghost use Rattle.sat_output.specs.Words.{spaced};
+ghost use Rattle.sat_output.specs.LratTexts.{addition_words, deletion_words, last_after, lines_text};
 ghost use Rattle.whole_writes.specs.Beginnings.{AppendsBeginning};
+ghost use Rattle.written_numbers.specs.Words.{line_text};
 
 use crate::binary::bytes_of;
 use crate::form::LineForm;
-use crate::words::{push_hints, push_literals, push_number, push_numbers};
+use crate::words::{push_hints, push_numbers};
 use lrat_text::{Hint, LratLine};
 use sat_formula::Lit;
 use std::alloc::{AllocError, Global};
 use std::io;
 use std::io::Write;
 use whole_writes::append_whole;
+use written_numbers::words::{push_literals, push_number};
 
 /// Writes a line of an LRAT proof, text with its LF. A buffered writer may keep some of it back.
 ///

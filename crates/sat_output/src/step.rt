@@ -2,9 +2,9 @@
 ghost use Rattle.std.specs.Prelude.{◌≡◌, ◌++◌, OnOk};
 ghost use Rattle.sat_output.specs.DratTexts.{addition_text, deletion_text};
 
-use crate::words::push_literals;
 use sat_formula::Lit;
 use std::alloc::AllocError;
+use written_numbers::words::push_literals;
 
 /// Appends a step that adds a clause, with its LF.
 ///

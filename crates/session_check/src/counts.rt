@@ -3,10 +3,10 @@ ghost use Rattle.std.specs.Prelude.{◌≡◌, ◌++◌, OnOk, decimal};
 ghost use Rattle.session_check.specs.Counts.{all_shown, counted, last_line, no_counts};
 
 use crate::report::Report;
-use itoa::Buffer;
 use session_text::Status;
 use std::alloc::AllocError;
 use verdicts::Claims;
+use written_numbers::words::push_decimal;
 
 /// How many queries were asked, how many of them have each answer, and how many answers are not
 /// shown. Each stays at `u64::MAX`.
@@ -77,8 +77,7 @@ impl Claims for Counts {
 fn push_count(text: &mut Vec<u8>, count: u64, words: &[u8]) -> Result<(), AllocError>
     ensures { OnOk result (text.new.items ≡ text.old.items ++ decimal count ++ words.now) }
 {
-    let mut buffer = Buffer::new();
-    text.extend_from_slice(buffer.format(count).as_bytes())?;
+    push_decimal(text, count)?;
     text.extend_from_slice(words)?;
     Ok(())
 }

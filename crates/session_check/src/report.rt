@@ -2,10 +2,10 @@
 ghost use Rattle.std.specs.Prelude.{◌≡◌, ◌++◌, OnOk};
 ghost use Rattle.session_check.specs.Reports.{cause_text, ending_text, reason_text, report_line, shown_text, status_text};
 
-use itoa::Buffer;
 use session_checker::SessionCause;
 use session_text::Status;
 use std::alloc::AllocError;
+use written_numbers::words::push_decimal;
 
 /// Why an answer is not shown.
 #[derive(Clone, Copy, Debug, PartialEq, Eq)]
@@ -100,9 +100,8 @@ pub(crate) fn set_line(text: &mut Vec<u8>, number: u64, report: Report) -> Resul
     ensures { OnOk result (text.new.items ≡ report_line number report) }
 {
     text.clear();
-    let mut buffer = Buffer::new();
     text.extend_from_slice(b"q ")?;
-    text.extend_from_slice(buffer.format(number).as_bytes())?;
+    push_decimal(text, number)?;
     text.push(b' ')?;
     text.extend_from_slice(status_text(report.status))?;
     push_ending(text, report)

@@ -1,6 +1,6 @@
 use Rattle.std.proofs.Common.{take}
 use Rattle.std.specs.Prelude.{All}
-use Rattle.sat_output.specs.Words.{IsCode}
+use Rattle.written_numbers.specs.Words.{IsCode}
 use Rattle.join_check.proofs.part_texts.clause_is_small.Given as goal
 
 abbrev pub invariant-lits : goal.invariant-lits

@@ -1,6 +1,6 @@
 use Rattle.std.specs.Prelude.{All}
 use Rattle.std.proofs.lemmas.List.Elements.{All-cons, All-same}
-use Rattle.sat_output.specs.Words.{IsCode}
+use Rattle.written_numbers.specs.Words.{IsCode}
 use Rattle.join_check.proofs.part_texts.codes_are_small.Goals as goal
 
 pub loop-clause-preserved : goal.loop-clause-preserved

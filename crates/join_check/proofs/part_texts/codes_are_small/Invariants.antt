@@ -1,5 +1,5 @@
 use Rattle.std.specs.Prelude.{All}
-use Rattle.sat_output.specs.Words.{IsCode}
+use Rattle.written_numbers.specs.Words.{IsCode}
 use Rattle.join_check.proofs.part_texts.codes_are_small.Given as goal
 
 -- all are, if those of the clauses to come are

@@ -1,6 +1,7 @@
 use Rattle.std.proofs.Common.{◌≡◌, ◌++◌, drop, map}
 use Rattle.lrat_text.specs.Grammar.{hint_of}
-use Rattle.sat_output.specs.Words.{hint_text, spaced}
+use Rattle.written_numbers.specs.Words.{spaced}
+use Rattle.sat_output.specs.LratTexts.{hint_text}
 use Rattle.sat_output.proofs.words.push_hints.Given as goal
 
 -- what is pushed, and what is still to come, are all of it

@@ -1,5 +1,5 @@
 use Rattle.std.proofs.Common.{◌≡◌, ◌++◌, drop, map, decimal}
-use Rattle.sat_output.specs.Words.{spaced}
+use Rattle.written_numbers.specs.Words.{spaced}
 use Rattle.sat_output.proofs.words.push_numbers.Given as goal
 
 -- what is pushed, and what is still to come, are all of it

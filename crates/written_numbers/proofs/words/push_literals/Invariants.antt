@@ -1,6 +1,6 @@
 use Rattle.std.proofs.Common.{◌≡◌, ◌++◌, drop, map}
-use Rattle.sat_output.specs.Words.{literal_text, spaced}
-use Rattle.sat_output.proofs.words.push_literals.Given as goal
+use Rattle.written_numbers.specs.Words.{literal_text, spaced}
+use Rattle.written_numbers.proofs.words.push_literals.Given as goal
 
 -- what is pushed, and what is still to come, are all of it
 abbrev pub invariant-loop-lit : goal.invariant-loop-lit

@@ -3,7 +3,7 @@
 --     AreDigitsOf n ds      the digits of a number, and their value
 --     literal_by      what holds of a number after a `-` and of a number alone, holds of a literal's text
 use Rattle.std.proofs.Common.{◌≡◌, ℕ, suc, ◌+◌, ◌-◌, ◌*◌, ◌/◌, ◌%◌, ◌^◌, ◌<◌, ◌≤◌, true, false, List, [], ◌∷◌, ◌++◌, Some, refl, sym, ap, ◌∙◌, append_assoc, append-nil, inl, inr, arith}
-use Rattle.std.specs.Prelude.{All, codes, cond, decimal, map, nat_le}
+use Rattle.std.specs.Prelude.{All, codes, decimal, map, nat_le}
 use Rattle.std.specs.List.{list_all}
 use Rattle.std.specs.Str.{bytes_eq}
 use Rattle.std.proofs.lemmas.Bool.{cases_Bool, eqb-false, eqb-true, le-leb, leb-true, ne_eqb}
@@ -16,6 +16,7 @@ use Rattle.sat_rules.specs.Clauses.{is_negative, var_of}
 use Rattle.sat_formula.specs.Bytes.{is_blank, is_digit, is_lf}
 use Rattle.sat_formula.specs.Lines.{has_bytes, lines_of, value_from, words_of}
 use Rattle.sat_formula.specs.Vars.{lit_code}
+use Rattle.written_numbers.specs.Words.{IsCode, literal_text}
 
 -- ---- words
 
@@ -119,7 +120,7 @@ digits_value n digits those = ap (value_from 0) (sym those.is ∙ sym (append-ni
 
 -- what holds of a number after a `-`, and of a number alone, holds of a literal's text
 pub literal_by : (P : ℕ → List ℕ → Type 0) → ((v : ℕ) → 0 < v → v ≤ 2 ^ 28 → P (lit_code v true) (45 ∷ decimal v) × P (lit_code v false) (decimal v)) →
-    (l : ℕ) → l < 2 ^ 29 → P l (cond (is_negative l) (45 ∷ decimal (suc (var_of l))) (decimal (suc (var_of l))))
+    (l : ℕ) → IsCode l → P l (literal_text l)
 literal_by P both l fits =
     let v : ℕ = suc (var_of l) in
     let forms = both v (omega arith) (omega arith) in
@@ -128,11 +129,11 @@ literal_by P both l fits =
       | inr positive ↦ let even = eqb-false (l % 2) 1 positive in let code : lit_code v false ≡ l = omega arith in rw positive (rw code at forms.1)
     ]
 
-pub literal_is_word : (l : ℕ) → l < 2 ^ 29 → IsWord (cond (is_negative l) (45 ∷ decimal (suc (var_of l))) (decimal (suc (var_of l))))
+pub literal_is_word : (l : ℕ) → IsCode l → IsWord (literal_text l)
 literal_is_word l fits = literal_by (λ m text. IsWord text) (λ v some most. (signed_is_word v (omega arith), decimal_is_word v (omega arith))) l fits
 
 -- it is no d
-pub literal_no_d : (l : ℕ) → l < 2 ^ 29 → bytes_eq (cond (is_negative l) (45 ∷ decimal (suc (var_of l))) (decimal (suc (var_of l)))) (codes "d") ≡ false
+pub literal_no_d : (l : ℕ) → IsCode l → bytes_eq (literal_text l) (codes "d") ≡ false
 literal_no_d l fits = literal_by (λ m text. bytes_eq text (codes "d") ≡ false) (λ v some most. (refl, plain v (omega arith))) l fits
   where
     plain : (v : ℕ) → v < 2 ^ 64 → bytes_eq (decimal v) (codes "d") ≡ false

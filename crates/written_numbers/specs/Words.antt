@@ -1,10 +1,10 @@
 -- Words of a text that is written.
---     literal_text l, hint_text h      a literal by its code as in DIMACS, and a hint
+--     literal_text l      a literal by its code, as in DIMACS
 --     spaced_word w, spaced ws      a word before a space, and words, each before one
+--     line_text ws      a line of these words and a last 0, without its LF
 --     IsCode l, IsId id      what these words can say: a literal of 2^28 variables, an id
 use Rattle.std.specs.Prelude.{ℕ, suc, ◌^◌, ◌<◌, if◌then◌else◌, List, [], ◌∷◌, ◌++◌, codes, decimal}
 use Rattle.sat_rules.specs.Clauses.{is_negative, var_of}
-use Rattle.lrat_rules.specs.Lines.{Hint, along, against}
 use Rattle.sat_formula.specs.Bytes.{minus_sign}
 
 -- a literal, as in DIMACS
@@ -12,11 +12,6 @@ abbrev pub literal_text : ℕ → List ℕ
 literal_text l =
     if is_negative l then minus_sign ∷ decimal (suc (var_of l))
     else decimal (suc (var_of l))
-
--- a hint: an id, after a `-` where a group begins
-abbrev pub hint_text : Hint → List ℕ
-hint_text (along id) = decimal id
-hint_text (against id) = minus_sign ∷ decimal id
 
 -- a word, and a space
 abbrev pub spaced_word : List ℕ → List ℕ
@@ -26,6 +21,10 @@ spaced_word word = word ++ codes " "
 abbrev pub spaced : List (List ℕ) → List ℕ
 spaced [] = []
 spaced (w ∷ ws) = spaced_word w ++ spaced ws
+
+-- words and a last 0
+abbrev pub line_text : List (List ℕ) → List ℕ
+line_text words = spaced words ++ codes "0"
 
 -- the code of a literal of one of 2^28 variables
 abbrev pub IsCode : ℕ → Type 0

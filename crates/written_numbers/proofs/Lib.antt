@@ -1,0 +1,4 @@
+pub mod GroupedBytes
+pub mod Growths
+pub mod SpacedWords
+pub mod WrittenWords

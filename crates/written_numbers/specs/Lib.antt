@@ -1,0 +1,3 @@
+pub mod GroupedBytes
+pub mod Growing
+pub mod Words
