@@ -4,8 +4,9 @@ use Rattle.std.specs.Io.KnownBytes.{Consumes, Keeps, IsAtEnd}
 use Rattle.sat_formula.specs.Readings.{Known, Leads}
 use Rattle.sat_formula.proofs.Readings.{end_here, ends_all, leads_all}
 use Rattle.sat_formula.proofs.Readings as readings
-use Rattle.answer_text.specs.declared.fault.Stop.{Stop}
-use Rattle.answer_text.specs.declared.fault.Stop.TheVariants as stops
+use Rattle.sat_formula.specs.declared.read_fault.LineNumber.{LineNumber}
+use Rattle.sat_formula.specs.declared.read_fault.UntakenByte.{UntakenByte}
+use Rattle.sat_formula.specs.declared.read_fault.UntakenByte.TheVariants as untaken
 use Rattle.answer_text.specs.declared.fault.AnswerKind.{AnswerKind}
 use Rattle.answer_text.specs.declared.literals.Literals.{Literals}
 use Rattle.answer_text.specs.declared.spot.Spot.{Spot}
@@ -13,7 +14,8 @@ use Rattle.answer_text.specs.Answers.{Outcome, Faulty, Step, On, Off, step, at_e
 use Rattle.answer_text.specs.Literals.{IsConsistent, listed}
 use Rattle.answer_text.specs.Places.{after}
 use Rattle.answer_text.proofs.ConsistencyLemmas.{ended, taken_consistent}
-use Rattle.answer_text.specs.Reading.{IsOutcome, IsTaken, FailsBy, ListsThe, Ends, fault_of}
+use Rattle.sat_formula.specs.ReadFault.{fault_of}
+use Rattle.answer_text.specs.Reading.{IsOutcome, IsTaken, FailsBy, ListsThe, Ends}
 
 -- what a byte did, and the bytes after it
 abbrev goes_on : Step → List ℕ → Outcome
@@ -39,15 +41,15 @@ text_ends a b c lits s p k e = ends_all a c (at_end s.line (step lits s 10)) (en
 -- ---- what is answered
 
 -- a byte was the fault
-pub fails_taken : (a b c : Known) (lits : List ℕ) (s : Spot) (x : ℕ) (table : Literals) (e : Stop) → Leads a b outcome_of (outcome_at lits s) → Consumes b c (x ∷ []) →
+pub fails_taken : (a b c : Known) (lits : List ℕ) (s : Spot) (x : ℕ) (table : Literals) (e : UntakenByte LineNumber AnswerKind) → Leads a b outcome_of (outcome_at lits s) → Consumes b c (x ∷ []) →
     IsTaken (step lits s x) table (Err e) → FailsBy a (fault_of e)
-fails_taken a b c lits s x table (stops.Wrong line kind) p h t = byte_off a b c lits s x line kind p h t
-fails_taken a b c lits s x table stops.OutOfMemory p h t = tt
+fails_taken a b c lits s x table (untaken.Wrong at kind) p h t = byte_off a b c lits s x at.0 kind p h t
+fails_taken a b c lits s x table untaken.OutOfMemory p h t = tt
 
 -- the end of the text is the fault
-pub ends_off : (line : ℕ) (d : Step) (table : Literals) (e : Stop) → IsTaken d table (Err e) → Ends (at_end line d) (Err e)
-ends_off line d table (stops.Wrong at kind) t = ap (at_end line) t
-ends_off line d table stops.OutOfMemory t = tt
+pub ends_off : (line : ℕ) (d : Step) (table : Literals) (e : UntakenByte LineNumber AnswerKind) → IsTaken d table (Err e) → Ends (at_end line d) (Err e)
+ends_off line d table (untaken.Wrong at kind) t = ap (at_end line) t
+ends_off line d table untaken.OutOfMemory t = tt
 
 -- the whole text was read
 pub ends_well : (a b c : Known) (lits : List ℕ) (s : Spot) (table : Literals) → IsConsistent (listed lits) → Leads a b outcome_of (outcome_at lits s) → Keeps b c → IsAtEnd c →
@@ -59,7 +61,7 @@ ends_well a b c lits s table apart p k e h = record {
   has = h.2;
 }
 
-pub ends_ill : (a b c : Known) (lits : List ℕ) (s : Spot) (e : Stop) → Leads a b outcome_of (outcome_at lits s) → Keeps b c → IsAtEnd c → Ends (at_end s.line (step lits s 10)) (Err e)
+pub ends_ill : (a b c : Known) (lits : List ℕ) (s : Spot) (e : UntakenByte LineNumber AnswerKind) → Leads a b outcome_of (outcome_at lits s) → Keeps b c → IsAtEnd c → Ends (at_end s.line (step lits s 10)) (Err e)
     → FailsBy a (fault_of e)
-ends_ill a b c lits s (stops.Wrong line kind) p k e h = rw h at (text_ends a b c lits s p k e)
-ends_ill a b c lits s stops.OutOfMemory p k e h = tt
+ends_ill a b c lits s (untaken.Wrong at kind) p k e h = rw h at (text_ends a b c lits s p k e)
+ends_ill a b c lits s untaken.OutOfMemory p k e h = tt

@@ -3,10 +3,12 @@
 --     FailsBy known fault      why no literals are given
 use Rattle.std.specs.Prelude.{◌≡◌, ℕ, List, Option, Result, Ok, Err, IfSome}
 use Rattle.sat_formula.specs.Readings.{Leads}
-use Rattle.answer_text.specs.declared.fault.AnswerFault.{AnswerFault}
-use Rattle.answer_text.specs.declared.fault.AnswerFault.TheVariants as faults
-use Rattle.answer_text.specs.declared.fault.Stop.{Stop}
-use Rattle.answer_text.specs.declared.fault.Stop.TheVariants as stops
+use Rattle.answer_text.specs.declared.fault.AnswerKind.{AnswerKind}
+use Rattle.sat_formula.specs.declared.read_fault.LineNumber.{LineNumber}
+use Rattle.sat_formula.specs.declared.read_fault.ReadFault.{ReadFault}
+use Rattle.sat_formula.specs.declared.read_fault.ReadFault.TheVariants as faults
+use Rattle.sat_formula.specs.declared.read_fault.UntakenByte.{UntakenByte}
+use Rattle.sat_formula.specs.declared.read_fault.UntakenByte.TheVariants as untaken
 use Rattle.answer_text.specs.declared.literals.Literals.{Literals}
 use Rattle.answer_text.specs.declared.spot.Spot.{Spot}
 use Rattle.answer_text.specs.Literals.{HasThe, IsConsistent, listed}
@@ -31,24 +33,19 @@ pub record ListsThe (known : Option (List ℕ)) (table : Literals) : Type 0 wher
   pub has : HasThe lits table
 
 -- why no literals are given: the text has this fault; a failed read and running out of memory can come anywhere
-abbrev pub FailsBy : Option (List ℕ) → AnswerFault → Type 0
+abbrev pub FailsBy : Option (List ℕ) → ReadFault LineNumber AnswerKind → Type 0
 FailsBy known (faults.Read e) = Unit {0}
-FailsBy known (faults.Wrong line kind) = IsOutcome known (Faulty line kind)
+FailsBy known (faults.Wrong at kind) = IsOutcome known (Faulty at.0 kind)
 FailsBy known faults.OutOfMemory = Unit {0}
 
--- the fault that a stop is
-abbrev pub fault_of : Stop → AnswerFault
-fault_of (stops.Wrong line kind) = faults.Wrong line kind
-fault_of stops.OutOfMemory = faults.OutOfMemory
-
--- what a byte did: the literals and the spot after it, or the stop
-abbrev pub IsTaken : Step → Literals → Result Spot Stop → Type 0
+-- what a byte did: the literals and the spot after it, or why it was not taken
+abbrev pub IsTaken : Step → Literals → Result Spot (UntakenByte LineNumber AnswerKind) → Type 0
 IsTaken step table (Ok s) = (lits : List ℕ) × (step ≡ On lits s) × HasThe lits table
-IsTaken step table (Err (stops.Wrong line kind)) = step ≡ Off line kind
-IsTaken step table (Err stops.OutOfMemory) = Unit {0}
+IsTaken step table (Err (untaken.Wrong at kind)) = step ≡ Off at.0 kind
+IsTaken step table (Err untaken.OutOfMemory) = Unit {0}
 
 -- the end of the text, which says this
-abbrev pub Ends : Outcome → Result Literals Stop → Type 0
+abbrev pub Ends : Outcome → Result Literals (UntakenByte LineNumber AnswerKind) → Type 0
 Ends o (Ok table) = (lits : List ℕ) × (o ≡ Lists lits) × HasThe lits table
-Ends o (Err (stops.Wrong line kind)) = o ≡ Faulty line kind
-Ends o (Err stops.OutOfMemory) = Unit {0}
+Ends o (Err (untaken.Wrong at kind)) = o ≡ Faulty at.0 kind
+Ends o (Err untaken.OutOfMemory) = Unit {0}

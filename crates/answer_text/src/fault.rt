@@ -1,12 +1,5 @@
 //! Why an answer is rejected.
-ghost use Rattle.std.specs.Prelude.{◌≡◌, ◌≢◌};
-ghost use Rattle.std.specs.IoError.{error_kind};
-ghost use Rattle.answer_text.specs.Reading.{fault_of};
-ghost use Rattle.answer_text.specs.declared.fault.Stop.TheVariants as stops;
-
-use std::alloc::AllocError;
-use std::io;
-use std::io::ErrorKind;
+use sat_formula::read_fault::{FaultKind, LineNumber, ReadFault};
 use thiserror::Error;
 
 /// What is wrong with an answer.
@@ -41,59 +34,9 @@ pub enum AnswerKind {
     NoStatus,
 }
 
+impl FaultKind for AnswerKind {
+    const TEXT: &'static str = "answer";
+}
+
 /// Why a reader of an answer gave up.
-#[derive(Debug, Drop, Error)]
-pub enum AnswerFault {
-    /// A read failed, or the answer is longer than any that is read.
-    #[error("error reading answer: {0}")]
-    Read(io::Error),
-    /// The first fault of the text, and its line; lines count from 1.
-    #[error("line {line}: {kind}")]
-    Wrong { line: u64, kind: AnswerKind },
-    /// There was no memory for a literal or for the bytes read ahead.
-    #[error("out of memory")]
-    OutOfMemory,
-}
-
-/// Why a byte was not taken. A fault that may hold the error of a read is three times as long, and
-/// would be copied for each byte.
-#[derive(Clone, Copy)]
-pub(crate) enum Stop {
-    Wrong { line: u64, kind: AnswerKind },
-    OutOfMemory,
-}
-
-impl From<AllocError> for Stop {
-    ghost from_gives = { λ _ stop. stop ≡ stops.OutOfMemory };
-
-    fn from(_e: AllocError) -> Stop {
-        Stop::OutOfMemory
-    }
-}
-
-impl From<Stop> for AnswerFault {
-    ghost from_gives = { λ stop fault. fault ≡ fault_of stop };
-
-    fn from(stop: Stop) -> AnswerFault {
-        match stop {
-            Stop::Wrong { line, kind } => AnswerFault::Wrong { line, kind },
-            Stop::OutOfMemory => AnswerFault::OutOfMemory,
-        }
-    }
-}
-
-impl AnswerFault {
-    /// Returns the fault of an answer whose bytes could not be read before it: no memory for them,
-    /// by the error's kind, or a failed read.
-    pub fn of_error(error: io::Error) -> AnswerFault
-        ensures memory { error_kind error ≡ ErrorKind.OutOfMemory
-            → result ≡ AnswerFault.OutOfMemory }
-        ensures read { error_kind error ≢ ErrorKind.OutOfMemory
-            → result ≡ AnswerFault.Read error }
-    {
-        match error.kind() {
-            ErrorKind::OutOfMemory => AnswerFault::OutOfMemory,
-            _ => AnswerFault::Read(error),
-        }
-    }
-}
+pub type AnswerFault = ReadFault<LineNumber, AnswerKind>;

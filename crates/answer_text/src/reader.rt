@@ -4,9 +4,10 @@ ghost use Rattle.answer_text.specs.Answers.{at_end, finish, step};
 ghost use Rattle.answer_text.specs.Literals.{HasThe};
 ghost use Rattle.answer_text.specs.Reading.{Ends, FailsBy, IsTaken, ListsThe};
 
-use crate::fault::{AnswerFault, AnswerKind, Stop};
+use crate::fault::{AnswerFault, AnswerKind};
 use crate::literals::Literals;
 use crate::spot::{After, Spot};
+use sat_formula::read_fault::{LineNumber, UntakenByte};
 use sat_formula::source::{NoByte, Source};
 use std::alloc::Global;
 use std::io::Read;
@@ -41,7 +42,11 @@ pub fn read_answer<R: Read + Drop>(alloc: Global, answer: R) -> Result<Literals,
 
 /// Takes a byte and returns the state after it.
 #[inline(always)]
-fn take(literals: &mut Literals, spot: Spot, byte: u8) -> Result<Spot, Stop>
+fn take(
+    literals: &mut Literals,
+    spot: Spot,
+    byte: u8,
+) -> Result<Spot, UntakenByte<LineNumber, AnswerKind>>
     ensures { (lits : List ℕ) → HasThe lits literals.old
         → IsTaken (step lits spot byte) literals.new result }
 {
@@ -59,7 +64,7 @@ fn take(literals: &mut Literals, spot: Spot, byte: u8) -> Result<Spot, Stop>
 }
 
 /// Ends the text.
-fn end(mut literals: Literals, spot: Spot) -> Result<Literals, Stop>
+fn end(mut literals: Literals, spot: Spot) -> Result<Literals, UntakenByte<LineNumber, AnswerKind>>
     ensures { (lits : List ℕ) → HasThe lits literals
         → Ends (at_end spot.line (step lits spot 10)) result }
 {
@@ -74,11 +79,11 @@ fn end(mut literals: Literals, spot: Spot) -> Result<Literals, Stop>
 }
 
 /// Returns a fault on the present line.
-fn wrong(spot: Spot, kind: AnswerKind) -> Stop
-    ensures { result ≡ Stop.Wrong spot.line kind }
+fn wrong(spot: Spot, kind: AnswerKind) -> UntakenByte<LineNumber, AnswerKind>
+    ensures { result ≡ UntakenByte.Wrong (record { 0 = spot.line }) kind }
 {
-    Stop::Wrong {
-        line: spot.line,
+    UntakenByte::Wrong {
+        at: LineNumber(spot.line),
         kind,
     }
 }

@@ -5,7 +5,7 @@ use Rattle.lrat_checker.specs.declared.fault.LratFault.TheVariants as lines
 use Rattle.drat_text.specs.declared.fault.DratFault.TheVariants as steps
 use Rattle.lrat_text.specs.declared.fault.LratTextFault.TheVariants as texts
 use Rattle.drat_elaborate.specs.declared.fault.ElaborateFault.TheVariants as elaborated
-use Rattle.answer_text.specs.declared.fault.AnswerFault.TheVariants as answers
+use Rattle.sat_formula.specs.declared.read_fault.ReadFault.TheVariants as answers
 use Rattle.verdicts.specs.declared.verdict.Verdict.{Verdict}
 use Rattle.verdicts.specs.declared.verdict.Verdict.TheVariants.{Verified}
 use Rattle.lrat_check.specs.declared.fault.RunFault as lrat

@@ -7,12 +7,13 @@ use Rattle.sat_formula.proofs.Readings as readings
 use Rattle.circuit_text.specs.declared.circuit.Circuit as read
 use Rattle.circuit_text.specs.declared.fault.AigerKind.{AigerKind}
 use Rattle.circuit_text.specs.declared.fault.Location.{Location}
-use Rattle.circuit_text.specs.declared.fault.Stop.{Stop}
-use Rattle.circuit_text.specs.declared.fault.Stop.TheVariants as stops
+use Rattle.sat_formula.specs.declared.read_fault.UntakenByte.{UntakenByte}
+use Rattle.sat_formula.specs.declared.read_fault.UntakenByte.TheVariants as untaken
 use Rattle.circuit_text.specs.declared.spot.Spot.{Spot}
 use Rattle.circuit_text.specs.Aigers.{Outcome, Faulty, Step, On, Off, step, at_end, outcome_at, outcome_of}
 use Rattle.circuit_text.specs.Circuits.{Circuit}
-use Rattle.circuit_text.specs.Reading.{IsOutcome, IsRead, IsTaken, FailsBy, Ends, fault_of}
+use Rattle.sat_formula.specs.ReadFault.{fault_of}
+use Rattle.circuit_text.specs.Reading.{IsOutcome, IsRead, IsTaken, FailsBy, Ends}
 
 -- what a byte did, and the bytes after it
 abbrev goes_on : Step → List ℕ → Outcome
@@ -38,10 +39,10 @@ text_ends a b c so_far s p k e = ends_all a c (at_end so_far s) (end_here p k e)
 -- ---- what is returned
 
 -- a byte was the fault
-pub fails_taken : (a b c : Known) (so_far : Circuit) (s : Spot) (x : ℕ) (circuit : read.Circuit) (e : Stop) → Leads a b outcome_of (outcome_at so_far s) → Consumes b c (x ∷ []) →
+pub fails_taken : (a b c : Known) (so_far : Circuit) (s : Spot) (x : ℕ) (circuit : read.Circuit) (e : UntakenByte Location AigerKind) → Leads a b outcome_of (outcome_at so_far s) → Consumes b c (x ∷ []) →
     IsTaken (step so_far s x) circuit (Err e) → FailsBy a (fault_of e)
-fails_taken a b c so_far s x circuit (stops.Wrong at kind) p h t = byte_off a b c so_far s x at kind p h t
-fails_taken a b c so_far s x circuit stops.OutOfMemory p h t = tt
+fails_taken a b c so_far s x circuit (untaken.Wrong at kind) p h t = byte_off a b c so_far s x at kind p h t
+fails_taken a b c so_far s x circuit untaken.OutOfMemory p h t = tt
 
 -- the whole text was read
 pub ends_well : (a b c : Known) (so_far : Circuit) (s : Spot) (circuit : read.Circuit) → Leads a b outcome_of (outcome_at so_far s) → Keeps b c → IsAtEnd c →
@@ -49,7 +50,7 @@ pub ends_well : (a b c : Known) (so_far : Circuit) (s : Spot) (circuit : read.Ci
 ends_well a b c so_far s circuit p k e h = rw h at (text_ends a b c so_far s p k e)
 
 -- the end of the text is the fault
-pub ends_ill : (a b c : Known) (so_far : Circuit) (s : Spot) (e : Stop) → Leads a b outcome_of (outcome_at so_far s) → Keeps b c → IsAtEnd c → Ends (at_end so_far s) (Err e)
+pub ends_ill : (a b c : Known) (so_far : Circuit) (s : Spot) (e : UntakenByte Location AigerKind) → Leads a b outcome_of (outcome_at so_far s) → Keeps b c → IsAtEnd c → Ends (at_end so_far s) (Err e)
     → FailsBy a (fault_of e)
-ends_ill a b c so_far s (stops.Wrong at kind) p k e h = rw h at (text_ends a b c so_far s p k e)
-ends_ill a b c so_far s stops.OutOfMemory p k e h = tt
+ends_ill a b c so_far s (untaken.Wrong at kind) p k e h = rw h at (text_ends a b c so_far s p k e)
+ends_ill a b c so_far s untaken.OutOfMemory p k e h = tt

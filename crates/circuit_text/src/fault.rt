@@ -1,10 +1,5 @@
 //! Why a circuit is not read.
-ghost use Rattle.std.specs.Prelude.{◌≡◌};
-ghost use Rattle.circuit_text.specs.Reading.{fault_of};
-ghost use Rattle.circuit_text.specs.declared.fault.Stop.TheVariants as stops;
-
-use std::alloc::AllocError;
-use std::io;
+use sat_formula::read_fault::{FaultKind, ReadFault};
 use thiserror::Error;
 
 /// What is wrong with the text of a circuit.
@@ -63,43 +58,9 @@ pub enum Location {
     Gate(u64),
 }
 
+impl FaultKind for AigerKind {
+    const TEXT: &'static str = "circuit";
+}
+
 /// Why a reader of a circuit gave up.
-#[derive(Debug, Drop, Error)]
-pub enum AigerFault {
-    /// A read failed, or the text is longer than any that is read.
-    #[error("error reading circuit: {0}")]
-    Read(io::Error),
-    /// The first fault of the text.
-    #[error("{at}: {kind}")]
-    Wrong { at: Location, kind: AigerKind },
-    /// There was no memory for the circuit or for the bytes read ahead.
-    #[error("out of memory")]
-    OutOfMemory,
-}
-
-/// Why a byte was not taken. A fault that may hold the error of a read is larger, and would be
-/// copied for each byte.
-#[derive(Clone, Copy)]
-pub(crate) enum Stop {
-    Wrong { at: Location, kind: AigerKind },
-    OutOfMemory,
-}
-
-impl From<AllocError> for Stop {
-    ghost from_gives = { λ _ stop. stop ≡ stops.OutOfMemory };
-
-    fn from(_e: AllocError) -> Stop {
-        Stop::OutOfMemory
-    }
-}
-
-impl From<Stop> for AigerFault {
-    ghost from_gives = { λ stop fault. fault ≡ fault_of stop };
-
-    fn from(stop: Stop) -> AigerFault {
-        match stop {
-            Stop::Wrong { at, kind } => AigerFault::Wrong { at, kind },
-            Stop::OutOfMemory => AigerFault::OutOfMemory,
-        }
-    }
-}
+pub type AigerFault = ReadFault<Location, AigerKind>;

@@ -5,8 +5,9 @@ ghost use Rattle.circuit_text.specs.Circuits.{circuit_of};
 ghost use Rattle.circuit_text.specs.Reading.{Ends, FailsBy, IsRead, IsTaken};
 
 use crate::circuit::Circuit;
-use crate::fault::{AigerFault, AigerKind, Stop};
+use crate::fault::{AigerFault, AigerKind, Location};
 use crate::spot::{After, Spot};
+use sat_formula::read_fault::UntakenByte;
 use sat_formula::source::{NoByte, Source};
 use std::alloc::Global;
 use std::io::Read;
@@ -41,7 +42,11 @@ pub fn read_circuit<R: Read + Drop>(alloc: Global, text: R) -> Result<Circuit, A
 
 /// Takes a byte: where the reading is after it.
 #[inline(always)]
-fn take(circuit: &mut Circuit, spot: Spot, byte: u8) -> Result<Spot, Stop>
+fn take(
+    circuit: &mut Circuit,
+    spot: Spot,
+    byte: u8,
+) -> Result<Spot, UntakenByte<Location, AigerKind>>
     ensures { IsTaken (step (circuit_of circuit.old) spot byte) circuit.new result }
 {
     let at = spot.location();
@@ -51,16 +56,16 @@ fn take(circuit: &mut Circuit, spot: Spot, byte: u8) -> Result<Spot, Stop>
             circuit.add(item)?;
             Ok(next)
         }
-        After::Stops(kind) => Err(Stop::Wrong { at, kind }),
+        After::Stops(kind) => Err(UntakenByte::Wrong { at, kind }),
     }
 }
 
 /// Ends the text.
-fn end(mut circuit: Circuit, spot: Spot) -> Result<Circuit, Stop>
+fn end(mut circuit: Circuit, spot: Spot) -> Result<Circuit, UntakenByte<Location, AigerKind>>
     ensures { Ends (at_end (circuit_of circuit) spot) result }
 {
     if !spot.is_done() {
-        return Err(Stop::Wrong {
+        return Err(UntakenByte::Wrong {
             at: spot.location(),
             kind: AigerKind::Unfinished,
         });

@@ -11,6 +11,7 @@ pub mod Past
 pub mod Text
 pub mod Source
 pub mod Stop
+pub mod ReadFault
 pub mod Readings
 pub mod Taking
 pub mod Reading

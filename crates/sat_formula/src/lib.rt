@@ -12,6 +12,7 @@ mod formula;
 pub mod laws;
 pub mod lit;
 mod past;
+pub mod read_fault;
 mod sink;
 pub mod source;
 pub mod stop;

@@ -1,7 +1,9 @@
 -- The lines of a session, from those of its texts.
 use Rattle.std.proofs.Common.{◌≡◌, ℕ, true, false, List, [], ◌∷◌, ◌++◌, Option, None, Some, Ok, Err, refl, sym, ap, ◌∙◌, append-nil, subst}
 use Rattle.std.proofs.lemmas.Bool.{true≢false}
-use Rattle.session_text.specs.declared.fault.SessionTextFault.{SessionTextFault}
+use Rattle.session_text.specs.declared.fault.TextKind.{TextKind}
+use Rattle.sat_formula.specs.declared.read_fault.LineNumber.{LineNumber}
+use Rattle.sat_formula.specs.declared.read_fault.ReadFault.{ReadFault}
 use Rattle.session_text.specs.declared.format.Format.{Format}
 use Rattle.session_text.specs.declared.format.Format.TheVariants.{Icnf, Lidrup}
 use Rattle.session_text.specs.declared.line.LineKind.{LineKind}
@@ -172,7 +174,7 @@ module _ {R S : Type 0} (proof : R → Known) (interaction : S → Known) where
   ahead_ended P (both i p) lines s t answers h = (h.0, joins_by (λ ls x. text_made interaction Icnf s t i ls answers x) (λ ls x. x) h.1)
 
   -- it has a fault
-  pub ahead_fault : (P : Known → List Line → Type 0) (known : Texts) (lines : List Line) (s t : SessionReader S) (fault : SessionTextFault) → ((k : Known) (ls : List Line) → P k ls → Begin Lidrup k ls) →
+  pub ahead_fault : (P : Known → List Line → Type 0) (known : Texts) (lines : List Line) (s t : SessionReader S) (fault : ReadFault LineNumber TextKind) → ((k : Known) (ls : List Line) → P k ls → Begin Lidrup k ls) →
       Answers interaction s t (Err fault) → ReadsBy proof interaction P known lines (Some s) Unread → (told : List Line) × LinesBy (Precede fault) Begin known told lines
   ahead_fault P (alone k) lines s t fault f answers h = absurd h
   ahead_fault P (both i p) lines s t fault f answers h = (h.0, joins_by (λ ls x. text_preceded interaction Icnf s t fault i ls answers x) (f p) h.1)
@@ -241,7 +243,7 @@ module _ {R S : Type 0} (proof : R → Known) (interaction : S → Known) where
       reads_as (At proof Lidrup old) (AtLine proof Lidrup new kind) known lines s ahead (λ k ls p. line_at proof Lidrup old new kind k ls answers p) h
 
   -- it has a fault
-  pub proof_fault : (known : Texts) (lines : List Line) (old new : SessionReader R) (s : Option (SessionReader S)) (ahead : Ahead) (fault : SessionTextFault) → Answers proof old new (Err fault) →
+  pub proof_fault : (known : Texts) (lines : List Line) (old new : SessionReader R) (s : Option (SessionReader S)) (ahead : Ahead) (fault : ReadFault LineNumber TextKind) → Answers proof old new (Err fault) →
       ReadsBy proof interaction (At proof Lidrup old) known lines s ahead → (told : List Line) × LinesBy Begin (Precede fault) known told lines
   proof_fault known lines old new s ahead fault answers h =
       reads_begin (Precede fault) known lines s ahead

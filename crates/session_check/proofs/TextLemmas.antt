@@ -4,8 +4,10 @@ use Rattle.std.specs.Prelude.{IfSome}
 pub use Rattle.sat_formula.specs.Readings.{Known}
 use Rattle.sat_formula.specs.Readings.{Leads}
 use Rattle.sat_formula.proofs.Readings.{ends_all, ends_on, ends_under, leads_as, leads_nil, leads_on, leads_under}
-use Rattle.session_text.specs.declared.fault.SessionTextFault.{SessionTextFault}
-use Rattle.session_text.specs.declared.fault.SessionTextFault.TheVariants as texts
+use Rattle.session_text.specs.declared.fault.TextKind.{TextKind}
+use Rattle.sat_formula.specs.declared.read_fault.LineNumber.{LineNumber}
+use Rattle.sat_formula.specs.declared.read_fault.ReadFault.{ReadFault}
+use Rattle.sat_formula.specs.declared.read_fault.ReadFault.TheVariants as texts
 use Rattle.session_text.specs.declared.format.Format.{Format}
 use Rattle.session_text.specs.declared.format.Format.TheVariants.{Icnf}
 use Rattle.session_text.specs.declared.line.LineKind.{LineKind}
@@ -82,12 +84,12 @@ module _ {R : Type 0} (remaining : R → Known) where
       faulty_here known (outcome_of format) ls Ended (ends_all known (bytes_left remaining new) (ls ++ [], Ended) (ends_on p (ends_under (behind ls) h)))
 
   -- up to a fault
-  pub text_preceded : (format : Format) (old new : SessionReader R) (fault : SessionTextFault) (known : Known) (ls : List Line) → Answers remaining old new (Err fault) → At remaining format old known ls →
+  pub text_preceded : (format : Format) (old new : SessionReader R) (fault : ReadFault LineNumber TextKind) (known : Known) (ls : List Line) → Answers remaining old new (Err fault) → At remaining format old known ls →
       Precede fault format known ls
   text_preceded format old new (texts.Read e) known ls h p = begins_at format old known ls p
-  text_preceded format old new (texts.Wrong line kind) known ls h p =
-      faulty_here known (outcome_of format) ls (Faulty line kind)
-      (outcome_by known (bytes_left remaining old) (outcome_of format) (left_to_say old) ls ([], Faulty line kind) p h)
+  text_preceded format old new (texts.Wrong at kind) known ls h p =
+      faulty_here known (outcome_of format) ls (Faulty at.0 kind)
+      (outcome_by known (bytes_left remaining old) (outcome_of format) (left_to_say old) ls ([], Faulty at.0 kind) p h)
   text_preceded format old new texts.OutOfMemory known ls h p = begins_at format old known ls p
 
   -- whatever comes next

@@ -3,8 +3,10 @@
 --     Pair, joined p      a line of the proof, perhaps with the one of the interaction that it repeats, or one of the interaction alone;  the line of the session
 --     LinesBy I P texts told lines      these are the lines of a session, and told are those of the text that tells it
 use Rattle.std.specs.Prelude.{◌≡◌, ℕ, Bool, true, false, List, [], ◌∷◌, ◌++◌, Option, IfSome}
-use Rattle.session_text.specs.declared.fault.SessionTextFault.{SessionTextFault}
-use Rattle.session_text.specs.declared.fault.SessionTextFault.TheVariants as texts
+use Rattle.session_text.specs.declared.fault.TextKind.{TextKind}
+use Rattle.sat_formula.specs.declared.read_fault.LineNumber.{LineNumber}
+use Rattle.sat_formula.specs.declared.read_fault.ReadFault.{ReadFault}
+use Rattle.sat_formula.specs.declared.read_fault.ReadFault.TheVariants as texts
 use Rattle.session_text.specs.declared.format.Format.{Format}
 use Rattle.session_text.specs.declared.format.Format.TheVariants.{Icnf, Lidrup}
 use Rattle.session_text.specs.declared.line.LineKind.{LineKind}
@@ -178,10 +180,10 @@ abbrev pub Make : Format → Option (List ℕ) → List Line → Type 0
 Make format known ls = IfSome known (λ text. outcome_of format text ≡ (ls, Ended))
 
 -- they are all before its fault
-abbrev pub Precede : SessionTextFault → Format → Option (List ℕ) → List Line → Type 0
+abbrev pub Precede : ReadFault LineNumber TextKind → Format → Option (List ℕ) → List Line → Type 0
 Precede (texts.Read e) format known ls = Begin format known ls
-Precede (texts.Wrong line kind) format known ls =
-    IfSome known (λ text. outcome_of format text ≡ (ls, Faulty line kind))
+Precede (texts.Wrong at kind) format known ls =
+    IfSome known (λ text. outcome_of format text ≡ (ls, Faulty at.0 kind))
 Precede texts.OutOfMemory format known ls = Begin format known ls
 
 -- the lines before a fault of a text or of a line

@@ -5,16 +5,19 @@ use Rattle.std.specs.Io.KnownBytes.{Consumes, IsAtEnd, Keeps}
 use Rattle.sat_formula.specs.Readings.{EndsAll, Known, Leads}
 use Rattle.sat_formula.proofs.Readings.{end_here, ends_all, leads_all}
 use Rattle.sat_formula.proofs.Readings as readings
-use Rattle.session_text.specs.declared.fault.SessionTextFault.{SessionTextFault}
-use Rattle.session_text.specs.declared.fault.SessionTextFault.TheVariants as faults
-use Rattle.session_text.specs.declared.fault.Stop.{Stop}
-use Rattle.session_text.specs.declared.fault.Stop.TheVariants as stops
+use Rattle.session_text.specs.declared.fault.TextKind.{TextKind}
+use Rattle.sat_formula.specs.declared.read_fault.LineNumber.{LineNumber}
+use Rattle.sat_formula.specs.declared.read_fault.ReadFault.{ReadFault}
+use Rattle.sat_formula.specs.declared.read_fault.ReadFault.TheVariants as faults
+use Rattle.sat_formula.specs.declared.read_fault.UntakenByte.{UntakenByte}
+use Rattle.sat_formula.specs.declared.read_fault.UntakenByte.TheVariants as untaken
 use Rattle.session_text.specs.declared.line.LineKind.{LineKind}
 use Rattle.session_text.specs.declared.spot.Spot.{Spot}
 use Rattle.session_text.specs.Content.{Content, no_content}
 use Rattle.session_text.specs.declared.reader.SessionReader.{SessionReader}
 use Rattle.session_text.specs.NextLine.{Answers, bytes_left, left_to_say}
-use Rattle.session_text.specs.Reading.{Ends, IsTaken, fault_of}
+use Rattle.sat_formula.specs.ReadFault.{fault_of}
+use Rattle.session_text.specs.Reading.{Ends, IsTaken}
 use Rattle.session_text.specs.Texts.{Ended, Ending, Faulty, Off, On, Outcome, Says, Step, ending_at, outcome_at, step, with_line}
 
 -- what a byte did, and the bytes after it
@@ -47,16 +50,16 @@ abbrev pub IsAll : Known → (List ℕ → Outcome) → Outcome → Type 0
 IsAll a f o = IfSome a (λ bytes. f bytes ≡ o)
 
 -- what a fault says of the bytes
-abbrev pub FailsBy : Known → (List ℕ → Outcome) → SessionTextFault → Type 0
+abbrev pub FailsBy : Known → (List ℕ → Outcome) → ReadFault LineNumber TextKind → Type 0
 FailsBy a f (faults.Read e) = Unit {0}
-FailsBy a f (faults.Wrong line kind) = IsAll a f ([], Faulty line kind)
+FailsBy a f (faults.Wrong at kind) = IsAll a f ([], Faulty at.0 kind)
 FailsBy a f faults.OutOfMemory = Unit {0}
 
 -- a byte is the fault
-pub byte_fails : {a b : Known} (c : Known) {f : List ℕ → Outcome} (so_far : Content) (s : Spot) (x : ℕ) (more : Content) (next : Spot) (stop : Stop) → Leads a b f (outcome_at so_far s) →
+pub byte_fails : {a b : Known} (c : Known) {f : List ℕ → Outcome} (so_far : Content) (s : Spot) (x : ℕ) (more : Content) (next : Spot) (stop : UntakenByte LineNumber TextKind) → Leads a b f (outcome_at so_far s) →
     Consumes b c (x ∷ []) → IsTaken (step so_far s x) more next (Err stop) → FailsBy a f (fault_of stop)
-byte_fails {a} {b} c so_far s x more next (stops.Wrong line kind) l h t = leads_all a c ([], Faulty line kind) (byte_on so_far s x (Off line kind) l h t)
-byte_fails {a} {b} c so_far s x more next stops.OutOfMemory l h t = tt
+byte_fails {a} {b} c so_far s x more next (untaken.Wrong at kind) l h t = leads_all a c ([], Faulty at.0 kind) (byte_on so_far s x (Off at.0 kind) l h t)
+byte_fails {a} {b} c so_far s x more next untaken.OutOfMemory l h t = tt
 
 -- the text ends
 pub text_ends : {a b : Known} (c : Known) {f : List ℕ → Outcome} (so_far : Content) (s : Spot) → Leads a b f (outcome_at so_far s) → Keeps b c × IsAtEnd c →
@@ -64,27 +67,27 @@ pub text_ends : {a b : Known} (c : Known) {f : List ℕ → Outcome} (so_far : C
 unfolding outcome_at
 text_ends c so_far s l k = end_here l k.0 k.1
 
-abbrev pub EndsBy : Known → Known → (List ℕ → Outcome) → Result (Option LineKind) SessionTextFault → Type 0
+abbrev pub EndsBy : Known → Known → (List ℕ → Outcome) → Result (Option LineKind) (ReadFault LineNumber TextKind) → Type 0
 EndsBy a c f (Ok None) = EndsAll a c f ([], Ended)
 EndsBy a c f (Ok (Some kind)) = ⊥
 EndsBy a c f (Err fault) = FailsBy a f fault
 
 -- well or not
-pub ends_by : {a : Known} (c : Known) {f : List ℕ → Outcome} (e : Ending) (r : Result (Option LineKind) SessionTextFault) → EndsAll a c f ([], e) → Ends e r → EndsBy a c f r
+pub ends_by : {a : Known} (c : Known) {f : List ℕ → Outcome} (e : Ending) (r : Result (Option LineKind) (ReadFault LineNumber TextKind)) → EndsAll a c f ([], e) → Ends e r → EndsBy a c f r
 ends_by {a} c e (Ok None) l h = rw h at l
 ends_by {a} c e (Ok (Some kind)) l h = absurd h
 ends_by {a} c e (Err (faults.Read error)) l h = absurd h
-ends_by {a} c e (Err (faults.Wrong line kind)) l h = rw h at (ends_all a c ([], e) l)
+ends_by {a} c e (Err (faults.Wrong at kind)) l h = rw h at (ends_all a c ([], e) l)
 ends_by {a} c e (Err faults.OutOfMemory) l h = absurd h
 
 -- what a call answers by that
-pub answers_fault : {R : Type 0} (remaining : R → Known) (old new : SessionReader R) (e : SessionTextFault) → FailsBy (bytes_left remaining old) (left_to_say old) e →
+pub answers_fault : {R : Type 0} (remaining : R → Known) (old new : SessionReader R) (e : ReadFault LineNumber TextKind) → FailsBy (bytes_left remaining old) (left_to_say old) e →
     Answers remaining old new (Err e)
 answers_fault remaining old new (faults.Read e) h = tt
-answers_fault remaining old new (faults.Wrong line kind) h = h
+answers_fault remaining old new (faults.Wrong at kind) h = h
 answers_fault remaining old new faults.OutOfMemory h = tt
 
-pub answers_end : {R : Type 0} (remaining : R → Known) (old new : SessionReader R) (r : Result (Option LineKind) SessionTextFault) →
+pub answers_end : {R : Type 0} (remaining : R → Known) (old new : SessionReader R) (r : Result (Option LineKind) (ReadFault LineNumber TextKind)) →
     EndsBy (bytes_left remaining old) (bytes_left remaining new) (left_to_say old) r → Answers remaining old new r
 answers_end remaining old new (Ok None) h = h
 answers_end remaining old new (Ok (Some kind)) h = absurd h

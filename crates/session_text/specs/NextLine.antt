@@ -3,8 +3,10 @@
 --     Answers      what the call answers
 use Rattle.std.specs.Prelude.{◌≡◌, ℕ, ◌<◌, ◌-◌, List, [], Option, Some, None, Result, Ok, Err, IfSome}
 use Rattle.drat_text.specs.Taking.{EndsAll, Leads, room_in, unread_bytes}
-use Rattle.session_text.specs.declared.fault.SessionTextFault.{SessionTextFault}
-use Rattle.session_text.specs.declared.fault.SessionTextFault.TheVariants as faults
+use Rattle.session_text.specs.declared.fault.TextKind.{TextKind}
+use Rattle.sat_formula.specs.declared.read_fault.LineNumber.{LineNumber}
+use Rattle.sat_formula.specs.declared.read_fault.ReadFault.{ReadFault}
+use Rattle.sat_formula.specs.declared.read_fault.ReadFault.TheVariants as faults
 use Rattle.session_text.specs.declared.line.LineKind.{LineKind}
 use Rattle.session_text.specs.declared.reader.SessionReader.{SessionReader}
 use Rattle.session_text.specs.declared.spot.Spot.{Spot}
@@ -42,7 +44,7 @@ module _ {R : Type 0} where
 
   -- the next line of the text, its end or its fault; a failed read and running out of memory can come anywhere
   abbrev pub Answers : (R → Option (List ℕ)) → SessionReader R → SessionReader R →
-      Result (Option LineKind) SessionTextFault → Type 0
+      Result (Option LineKind) (ReadFault LineNumber TextKind) → Type 0
   Answers remaining old new (Ok (Some kind)) =
       Leads (bytes_left remaining old) (bytes_left remaining new) (left_to_say old)
       (λ more. with_line (line_read new kind) (left_to_say new more))
@@ -50,6 +52,6 @@ module _ {R : Type 0} where
   Answers remaining old new (Ok None) =
       EndsAll (bytes_left remaining old) (bytes_left remaining new) (left_to_say old) ([], Ended)
   Answers remaining old new (Err (faults.Read e)) = Unit {0}
-  Answers remaining old new (Err (faults.Wrong line kind)) =
-      IfSome (bytes_left remaining old) (λ bytes. left_to_say old bytes ≡ ([], Faulty line kind))
+  Answers remaining old new (Err (faults.Wrong at kind)) =
+      IfSome (bytes_left remaining old) (λ bytes. left_to_say old bytes ≡ ([], Faulty at.0 kind))
   Answers remaining old new (Err faults.OutOfMemory) = Unit {0}

@@ -4,12 +4,13 @@ ghost use Rattle.session_text.specs.Content.{content_of, with_lits};
 ghost use Rattle.session_text.specs.Reading.{Ends, IsTaken};
 ghost use Rattle.session_text.specs.Texts.{ending_at, step};
 
-use crate::fault::{SessionTextFault, Stop};
+use crate::fault::{SessionTextFault, TextKind};
 use crate::format::Format;
 use crate::line::{LineKind, Lists};
 use crate::spot::{After, Spot};
 use drat_text::bytes::Bytes;
-use sat_formula::stop::Stop as NoByte;
+use sat_formula::read_fault::{LineNumber, UntakenByte};
+use sat_formula::stop::Stop;
 use std::alloc::Global;
 use std::io::Read;
 use std::mem::swap;
@@ -114,8 +115,8 @@ impl<R: Read> SessionReader<R> {
                         return Ok(Some(kind));
                     }
                 }
-                Err(NoByte::End) => return end(self.spot),
-                Err(NoByte::Read) => return Err(SessionTextFault::Read(self.bytes.error())),
+                Err(Stop::End) => return end(self.spot),
+                Err(Stop::Read) => return Err(SessionTextFault::Read(self.bytes.error())),
                 Err(_) => return Err(SessionTextFault::OutOfMemory),
             }
         }
@@ -124,7 +125,11 @@ impl<R: Read> SessionReader<R> {
 
 /// Takes a byte. Returns the kind of the line that it ends, if it ends one.
 #[inline(always)]
-fn take(lists: &mut Lists, spot: &mut Spot, byte: u8) -> Result<Option<LineKind>, Stop>
+fn take(
+    lists: &mut Lists,
+    spot: &mut Spot,
+    byte: u8,
+) -> Result<Option<LineKind>, UntakenByte<LineNumber, TextKind>>
     ensures { IsTaken (step (content_of lists.old) spot.old byte) (content_of lists.new) spot.new
         result }
 {
@@ -142,8 +147,8 @@ fn take(lists: &mut Lists, spot: &mut Spot, byte: u8) -> Result<Option<LineKind>
             *spot = next;
             Ok(Some(kind))
         }
-        After::Stops(kind) => Err(Stop::Wrong {
-            line: spot.line,
+        After::Stops(kind) => Err(UntakenByte::Wrong {
+            at: LineNumber(spot.line),
             kind,
         }),
     }
@@ -156,7 +161,7 @@ fn end(spot: Spot) -> Result<Option<LineKind>, SessionTextFault>
     match spot.at_end() {
         None => Ok(None),
         Some(kind) => Err(SessionTextFault::Wrong {
-            line: spot.line,
+            at: LineNumber(spot.line),
             kind,
         }),
     }

@@ -5,13 +5,15 @@ use Rattle.sat_formula.specs.Readings.{Known, Leads}
 use Rattle.sat_formula.proofs.Readings.{end_here, ends_all, leads_all}
 use Rattle.sat_formula.proofs.Readings as readings
 use Rattle.stimulus_text.specs.declared.fault.StimulusKind.{StimulusKind}
-use Rattle.stimulus_text.specs.declared.fault.Stop.{Stop}
-use Rattle.stimulus_text.specs.declared.fault.Stop.TheVariants as stops
+use Rattle.sat_formula.specs.declared.read_fault.LineNumber.{LineNumber}
+use Rattle.sat_formula.specs.declared.read_fault.UntakenByte.{UntakenByte}
+use Rattle.sat_formula.specs.declared.read_fault.UntakenByte.TheVariants as untaken
 use Rattle.stimulus_text.specs.declared.spot.Shape.{Shape}
 use Rattle.stimulus_text.specs.declared.spot.Spot.{Spot}
 use Rattle.stimulus_text.specs.declared.stimulus.Stimulus.{Stimulus}
 use Rattle.stimulus_text.specs.declared.stimulus.Told as read
-use Rattle.stimulus_text.specs.Reading.{IsOutcome, IsRead, IsTaken, FailsBy, Ends, fault_of}
+use Rattle.sat_formula.specs.ReadFault.{fault_of}
+use Rattle.stimulus_text.specs.Reading.{IsOutcome, IsRead, IsTaken, FailsBy, Ends}
 use Rattle.stimulus_text.specs.Stimuli.{Told}
 use Rattle.stimulus_text.specs.Texts.{Outcome, Faulty, Step, On, Off, step, at_end, outcome_at, outcome_of}
 
@@ -39,10 +41,10 @@ text_ends shape a b c so_far s p k e = ends_all a c (at_end so_far s) (end_here 
 -- ---- what is returned
 
 -- a byte was the fault
-pub fails_taken : (shape : Shape) (a b c : Known) (so_far : Told) (s : Spot) (x : ℕ) (told : read.Told) (e : Stop) → Leads a b (outcome_of shape) (outcome_at so_far s) → Consumes b c (x ∷ []) →
+pub fails_taken : (shape : Shape) (a b c : Known) (so_far : Told) (s : Spot) (x : ℕ) (told : read.Told) (e : UntakenByte LineNumber StimulusKind) → Leads a b (outcome_of shape) (outcome_at so_far s) → Consumes b c (x ∷ []) →
     IsTaken (step so_far s x) told (Err e) → FailsBy shape a (fault_of e)
-fails_taken shape a b c so_far s x told (stops.Wrong line kind) p h t = byte_off shape a b c so_far s x line kind p h t
-fails_taken shape a b c so_far s x told stops.OutOfMemory p h t = tt
+fails_taken shape a b c so_far s x told (untaken.Wrong at kind) p h t = byte_off shape a b c so_far s x at.0 kind p h t
+fails_taken shape a b c so_far s x told untaken.OutOfMemory p h t = tt
 
 -- the whole text was read
 pub ends_well : (shape : Shape) (a b c : Known) (so_far : Told) (s : Spot) (stimulus : Stimulus) → Leads a b (outcome_of shape) (outcome_at so_far s) → Keeps b c → IsAtEnd c →
@@ -50,7 +52,7 @@ pub ends_well : (shape : Shape) (a b c : Known) (so_far : Told) (s : Spot) (stim
 ends_well shape a b c so_far s stimulus p k e h = rw h at (text_ends shape a b c so_far s p k e)
 
 -- the end of the text is the fault
-pub ends_ill : (shape : Shape) (a b c : Known) (so_far : Told) (s : Spot) (e : Stop) → Leads a b (outcome_of shape) (outcome_at so_far s) → Keeps b c → IsAtEnd c → Ends (at_end so_far s) (Err e)
+pub ends_ill : (shape : Shape) (a b c : Known) (so_far : Told) (s : Spot) (e : UntakenByte LineNumber StimulusKind) → Leads a b (outcome_of shape) (outcome_at so_far s) → Keeps b c → IsAtEnd c → Ends (at_end so_far s) (Err e)
     → FailsBy shape a (fault_of e)
-ends_ill shape a b c so_far s (stops.Wrong line kind) p k e h = rw h at (text_ends shape a b c so_far s p k e)
-ends_ill shape a b c so_far s stops.OutOfMemory p k e h = tt
+ends_ill shape a b c so_far s (untaken.Wrong at kind) p k e h = rw h at (text_ends shape a b c so_far s p k e)
+ends_ill shape a b c so_far s untaken.OutOfMemory p k e h = tt

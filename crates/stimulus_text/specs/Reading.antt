@@ -2,10 +2,12 @@
 --     IsRead shape known s      the text says this stimulus
 --     FailsBy shape known fault      why no stimulus is given
 use Rattle.std.specs.Prelude.{◌≡◌, ℕ, List, Option, Result, Ok, Err, IfSome}
-use Rattle.stimulus_text.specs.declared.fault.StimulusFault.{StimulusFault}
-use Rattle.stimulus_text.specs.declared.fault.StimulusFault.TheVariants as faults
-use Rattle.stimulus_text.specs.declared.fault.Stop.{Stop}
-use Rattle.stimulus_text.specs.declared.fault.Stop.TheVariants as stops
+use Rattle.stimulus_text.specs.declared.fault.StimulusKind.{StimulusKind}
+use Rattle.sat_formula.specs.declared.read_fault.LineNumber.{LineNumber}
+use Rattle.sat_formula.specs.declared.read_fault.ReadFault.{ReadFault}
+use Rattle.sat_formula.specs.declared.read_fault.ReadFault.TheVariants as faults
+use Rattle.sat_formula.specs.declared.read_fault.UntakenByte.{UntakenByte}
+use Rattle.sat_formula.specs.declared.read_fault.UntakenByte.TheVariants as untaken
 use Rattle.stimulus_text.specs.declared.spot.Shape.{Shape}
 use Rattle.stimulus_text.specs.declared.spot.Spot.{Spot}
 use Rattle.stimulus_text.specs.declared.stimulus.Stimulus.{Stimulus}
@@ -26,24 +28,19 @@ abbrev pub IsRead : Shape → Option (List ℕ) → Stimulus → Type 0
 IsRead shape known s = IsOutcome shape known (said_by s)
 
 -- why no stimulus is given: the text has this fault; a failed read and running out of memory can come anywhere
-abbrev pub FailsBy : Shape → Option (List ℕ) → StimulusFault → Type 0
+abbrev pub FailsBy : Shape → Option (List ℕ) → ReadFault LineNumber StimulusKind → Type 0
 FailsBy shape known (faults.Read e) = Unit {0}
-FailsBy shape known (faults.Wrong line kind) = IsOutcome shape known (Faulty line kind)
+FailsBy shape known (faults.Wrong at kind) = IsOutcome shape known (Faulty at.0 kind)
 FailsBy shape known faults.OutOfMemory = Unit {0}
 
--- the fault that a stop is
-abbrev pub fault_of : Stop → StimulusFault
-fault_of (stops.Wrong line kind) = faults.Wrong line kind
-fault_of stops.OutOfMemory = faults.OutOfMemory
-
--- what a byte did: what was read and the spot after it, or the stop
-abbrev pub IsTaken : Step → read.Told → Result Spot Stop → Type 0
+-- what a byte did: what was read and the spot after it, or why it was not taken
+abbrev pub IsTaken : Step → read.Told → Result Spot (UntakenByte LineNumber StimulusKind) → Type 0
 IsTaken step t (Ok s) = step ≡ On (told_by t) s
-IsTaken step t (Err (stops.Wrong line kind)) = step ≡ Off line kind
-IsTaken step t (Err stops.OutOfMemory) = Unit {0}
+IsTaken step t (Err (untaken.Wrong at kind)) = step ≡ Off at.0 kind
+IsTaken step t (Err untaken.OutOfMemory) = Unit {0}
 
 -- the end of the text, which says this
-abbrev pub Ends : Outcome → Result Stimulus Stop → Type 0
+abbrev pub Ends : Outcome → Result Stimulus (UntakenByte LineNumber StimulusKind) → Type 0
 Ends o (Ok s) = o ≡ said_by s
-Ends o (Err (stops.Wrong line kind)) = o ≡ Faulty line kind
-Ends o (Err stops.OutOfMemory) = Unit {0}
+Ends o (Err (untaken.Wrong at kind)) = o ≡ Faulty at.0 kind
+Ends o (Err untaken.OutOfMemory) = Unit {0}

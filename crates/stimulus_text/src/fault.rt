@@ -1,10 +1,5 @@
 //! Why a stimulus is rejected.
-ghost use Rattle.std.specs.Prelude.{◌≡◌};
-ghost use Rattle.stimulus_text.specs.Reading.{fault_of};
-ghost use Rattle.stimulus_text.specs.declared.fault.Stop.TheVariants as stops;
-
-use std::alloc::AllocError;
-use std::io;
+use sat_formula::read_fault::{FaultKind, LineNumber, ReadFault};
 use thiserror::Error;
 
 /// What is wrong with a stimulus.
@@ -30,43 +25,9 @@ pub enum StimulusKind {
     Unfinished,
 }
 
+impl FaultKind for StimulusKind {
+    const TEXT: &'static str = "stimulus";
+}
+
 /// Why a reader of a stimulus gave up.
-#[derive(Debug, Drop, Error)]
-pub enum StimulusFault {
-    /// A read failed, or the text is longer than any that is read.
-    #[error("error reading stimulus: {0}")]
-    Read(io::Error),
-    /// The first fault of the text, and its line; lines count from 1.
-    #[error("line {line}: {kind}")]
-    Wrong { line: u64, kind: StimulusKind },
-    /// There was no memory for a value or for the bytes read ahead.
-    #[error("out of memory")]
-    OutOfMemory,
-}
-
-/// Why a byte was not taken. A fault that may hold the error of a read is larger, and would be
-/// copied for each byte.
-#[derive(Clone, Copy)]
-pub(crate) enum Stop {
-    Wrong { line: u64, kind: StimulusKind },
-    OutOfMemory,
-}
-
-impl From<AllocError> for Stop {
-    ghost from_gives = { λ _ stop. stop ≡ stops.OutOfMemory };
-
-    fn from(_e: AllocError) -> Stop {
-        Stop::OutOfMemory
-    }
-}
-
-impl From<Stop> for StimulusFault {
-    ghost from_gives = { λ stop fault. fault ≡ fault_of stop };
-
-    fn from(stop: Stop) -> StimulusFault {
-        match stop {
-            Stop::Wrong { line, kind } => StimulusFault::Wrong { line, kind },
-            Stop::OutOfMemory => StimulusFault::OutOfMemory,
-        }
-    }
-}
+pub type StimulusFault = ReadFault<LineNumber, StimulusKind>;

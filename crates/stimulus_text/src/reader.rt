@@ -4,9 +4,10 @@ ghost use Rattle.stimulus_text.specs.Reading.{Ends, FailsBy, IsRead, IsTaken};
 ghost use Rattle.stimulus_text.specs.Stimuli.{told_by};
 ghost use Rattle.stimulus_text.specs.Texts.{at_end, step};
 
-use crate::fault::{StimulusFault, StimulusKind, Stop};
+use crate::fault::{StimulusFault, StimulusKind};
 use crate::spot::{After, Shape, Spot};
 use crate::stimulus::{Stimulus, Told};
+use sat_formula::read_fault::{LineNumber, UntakenByte};
 use sat_formula::source::{NoByte, Source};
 use std::alloc::Global;
 use std::io::Read;
@@ -44,7 +45,12 @@ pub fn read_stimulus<R: Read + Drop>(
 }
 
 /// Takes a byte and returns the state after it.
-fn take(alloc: Global, told: &mut Told, spot: Spot, byte: u8) -> Result<Spot, Stop>
+fn take(
+    alloc: Global,
+    told: &mut Told,
+    spot: Spot,
+    byte: u8,
+) -> Result<Spot, UntakenByte<LineNumber, StimulusKind>>
     ensures { IsTaken (step (told_by told.old) spot byte) told.new result }
 {
     match spot.after(byte) {
@@ -53,20 +59,20 @@ fn take(alloc: Global, told: &mut Told, spot: Spot, byte: u8) -> Result<Spot, St
             told.add(alloc, item)?;
             Ok(next)
         }
-        After::Stops(kind) => Err(Stop::Wrong {
-            line: spot.line,
+        After::Stops(kind) => Err(UntakenByte::Wrong {
+            at: LineNumber(spot.line),
             kind,
         }),
     }
 }
 
 /// Ends the text.
-fn end(told: Told, spot: Spot) -> Result<Stimulus, Stop>
+fn end(told: Told, spot: Spot) -> Result<Stimulus, UntakenByte<LineNumber, StimulusKind>>
     ensures { Ends (at_end (told_by told) spot) result }
 {
     if !spot.is_done() {
-        return Err(Stop::Wrong {
-            line: spot.line,
+        return Err(UntakenByte::Wrong {
+            at: LineNumber(spot.line),
             kind: StimulusKind::Unfinished,
         });
     }
