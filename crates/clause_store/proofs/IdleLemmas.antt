@@ -8,44 +8,48 @@ use Rattle.clause_store.specs.declared.clauses.Clause.{Clause}
 use Rattle.clause_store.specs.declared.clauses.units.UnitClause.{UnitClause}
 use Rattle.clause_store.specs.declared.rup.Answer.{Answer}
 use Rattle.clause_store.specs.Buckets.{Buckets, clauses_at}
-use Rattle.clause_store.specs.Idle.{AreIdle, IsIdleRun, IsIdleSince, Lengthens, LengthensRun}
+use Rattle.clause_store.specs.Idle.{AreIdle, IsIdleRun, IsIdleSince, Lengthens}
 use Rattle.clause_store.specs.Rup.{Walks, WalksFirst, answer_or, check_answer, lits_at, lits_in, named_buckets, true_lits}
 use Rattle.clause_store.specs.Trace.{Listing, Lists, named_clauses}
 use Rattle.clause_store.specs.View.{stored_in, stored_of}
 
 -- one walk after another
-pub lengthens_then : {A : Type 0} (x y z : A) (n m k : ℕ) → Lengthens x n y m → Lengthens y m z k → Lengthens x n z k
-lengthens_then x y z n m k h g = record {
+pub lengthens_then : (ids now last : List ℕ) (us vs ws : List (Option UnitClause)) (n m k : ℕ) →
+    Lengthens ids us n now vs m → Lengthens now vs m last ws k → Lengthens ids us n last ws k
+lengthens_then ids now last us vs ws n m k h g = record {
   no_shorter = omega arith;
-  still = λ e. g.still (omega arith) ∙ h.still (omega arith);
+  listed = λ e. g.listed (omega arith) ∙ h.listed (omega arith);
+  units = λ e. g.units (omega arith) ∙ h.units (omega arith);
 }
 
-pub lengthens_then_longer : {A : Type 0} (x y z : A) (n m k : ℕ) → Lengthens x n y m → k ≡ m + 1 → Lengthens x n z k
-lengthens_then_longer x y z n m k h longer = record {
+pub lengthens_then_longer : (ids now last : List ℕ) (us vs ws : List (Option UnitClause)) (n m k : ℕ) →
+    Lengthens ids us n now vs m → k ≡ m + 1 → Lengthens ids us n last ws k
+lengthens_then_longer ids now last us vs ws n m k h longer = record {
   no_shorter = omega arith;
-  still = λ e. absurd (omega arith);
+  listed = λ e. absurd (omega arith);
+  units = λ e. absurd (omega arith);
 }
 
 -- what was idle before a walk is idle after it, or the trail grew
 pub are_idle-walked : (after : Listing) (found : ℕ → Option ℕ) (ids now : List ℕ) (us vs : List (Option UnitClause)) (n m : ℕ) (buffer : List ℕ) (b : Buckets) →
-    LengthensRun ids us n now vs m → AreIdle found n (λ h. IsIdleRun after ids us (stored_in buffer b h)) →
+    Lengthens ids us n now vs m → AreIdle found n (λ h. IsIdleRun after ids us (stored_in buffer b h)) →
     AreIdle found m (λ h. IsIdleRun after now vs (stored_in buffer b h))
 are_idle-walked after found ids now us vs n m buffer b g f h k e =
     let since = f h k e in
     record {
       no_later = omega arith;
-      idle = λ at. let still : m ≡ n = omega arith in rw (g.listed.still still, g.units.still still) (since.idle (cc));
+      idle = λ at. let still : m ≡ n = omega arith in rw (g.listed still, g.units still) (since.idle (cc));
     }
 
 -- a bucket is idle after its walk, or the trail grew
 pub is_idle_since-walked : (after : Listing) (ids now : List ℕ) (us vs : List (Option UnitClause)) (n m : ℕ) (cs : List Clause) (buffer : List ℕ) (b : Buckets) (h : ℕ)
-    (falsified : Bool) → clauses_at b h ≡ cs → LengthensRun ids us n now vs m → falsified ≡ false →
+    (falsified : Bool) → clauses_at b h ≡ cs → Lengthens ids us n now vs m → falsified ≡ false →
     Walks us (lits_in buffer cs) vs falsified → Lists after ids us (map (stored_of buffer) cs) now vs falsified →
     IsIdleSince n m (IsIdleRun after now vs (stored_in buffer b h))
 is_idle_since-walked after ids now us vs n m cs buffer b h falsified found g none w l = record {
-  no_later = g.units.no_shorter;
+  no_later = g.no_shorter;
   idle = λ e.
-      let u = g.units.still (sym e) in let i = g.listed.still (sym e) in
+      let u = g.units (sym e) in let i = g.listed (sym e) in
       rw (found, u, i) (record { walk = rw (u, none) at w; listed = rw (u, i, none) at l });
 }
 

@@ -34,13 +34,9 @@ pub record IsIdleSince (n now : ℕ) (Idle : Type 0) : Type 0 where
 abbrev pub AreIdle : (ℕ → Option ℕ) → ℕ → (ℕ → Type 0) → Type 0
 AreIdle found now Idle = (h n : ℕ) → found h ≡ Some n → IsIdleSince n now (Idle h)
 
--- a trail of length n gets the length m: it gets no shorter, and while it is no longer y is x
-pub record Lengthens {A : Type 0} (x : A) (n : ℕ) (y : A) (m : ℕ) : Type 0 where
-  pub no_shorter : n ≤ m
-  pub still : m ≡ n → y ≡ x
-
--- how listed ids and values get longer with a trail of length n that gets the length m
-pub record LengthensRun (ids : List ℕ) (us : List (Option UnitClause)) (n : ℕ) (now : List ℕ)
+-- a trail of length n gets the length m: no less, and while it is no longer the listed ids and the values are the same
+pub record Lengthens (ids : List ℕ) (us : List (Option UnitClause)) (n : ℕ) (now : List ℕ)
     (vs : List (Option UnitClause)) (m : ℕ) : Type 0 where
-  pub units : Lengthens us n vs m
-  pub listed : Lengthens ids n now m
+  pub no_shorter : n ≤ m
+  pub listed : m ≡ n → now ≡ ids
+  pub units : m ≡ n → vs ≡ us

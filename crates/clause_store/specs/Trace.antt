@@ -90,7 +90,7 @@ clause_trace us c es =
     if some_true_unit us c then unit_id (unit_of us (var_of (first_true us c))) ∷ []
     else ids_of (open_trace us c es)
 
--- the ids that are listed once a clause's literals are taken as false, or one is true, become these in a walk that passes, whatever clauses are named
+-- from these ids and values, or with no walk where a literal was true already, a check that passes lists in all `whole cs`, whatever clauses cs are named
 abbrev pub Opens : Listing → List ℕ → List (Option UnitClause) → (List Stored → List ℕ) → Bool →
     Type 0
 Opens after ids us whole met = (cs : List Stored) (last : List ℕ) →

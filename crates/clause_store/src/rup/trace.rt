@@ -32,10 +32,9 @@ pub fn list_units(
         ≡ (trace.new.items, unlisted_lits units.new)) }
     ensures kept { KeepsStored units.old units.new }
     ensures true_lits { true_lits units.new ≡ true_lits units.old }
-    ensures lengthens { OnOk result (Lengthens units.old (length trail.old.items)
-        units.new (length trail.new.items)) }
-    ensures lengthens_ids { OnOk result (Lengthens trace.old.items (length trail.old.items)
-        trace.new.items (length trail.new.items)) }
+    ensures lengthens { OnOk result (Lengthens
+        trace.old.items units.old (length trail.old.items)
+        trace.new.items units.new (length trail.new.items)) }
     ensures undoable { IsUndoable units.old trail.old.items units.new trail.new.items }
 {
     for lit in lits {
@@ -63,10 +62,9 @@ fn list_unit(
         → looked trace.old.items units.old (lit ∷ rest) ≡ looked trace.new.items units.new rest) }
     ensures kept { KeepsStored units.old units.new }
     ensures true_lits { true_lits units.new ≡ true_lits units.old }
-    ensures lengthens { OnOk result (Lengthens units.old (length trail.old.items)
-        units.new (length trail.new.items)) }
-    ensures lengthens_ids { OnOk result (Lengthens trace.old.items (length trail.old.items)
-        trace.new.items (length trail.new.items)) }
+    ensures lengthens { OnOk result (Lengthens
+        trace.old.items units.old (length trail.old.items)
+        trace.new.items units.new (length trail.new.items)) }
     ensures undoable { IsUndoable units.old trail.old.items units.new trail.new.items }
 {
     if let Some(id) = units.stored_id(lit.index()) {

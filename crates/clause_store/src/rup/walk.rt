@@ -4,7 +4,7 @@ ghost use Rattle.sat_rules.specs.Clauses.{is_tautology};
 ghost use Rattle.checker_rules.specs.Passes as rules;
 ghost use Rattle.clause_store.specs.Buckets.{AreWithin, clauses_at};
 ghost use Rattle.clause_store.specs.Crowds.{standing};
-ghost use Rattle.clause_store.specs.Idle.{AreIdle, IsIdleRun, LengthensRun, idle_at};
+ghost use Rattle.clause_store.specs.Idle.{AreIdle, IsIdleRun, Lengthens, idle_at};
 ghost use Rattle.clause_store.specs.Lits.{IsWithin, lits_of};
 ghost use Rattle.clause_store.specs.Rup.{AreAllKnown, Walks, WalksFirst, check_answer, clause_answer, lits_at, lits_in, named_buckets, true_lits};
 ghost use Rattle.clause_store.specs.StateOf.{stored_units};
@@ -40,7 +40,7 @@ fn visit_places<W: Walker>(
     ensures listed { IfOk result (Lists W.after (W.ids walker.old) units.old
         (map (stored_of buffer.now) (standing places.now)) (W.ids walker.new) units.new) }
     ensures lengthens { IfOk result (λ falsified. falsified ≡ false
-        → LengthensRun (W.ids walker.old) units.old (length (W.written walker.old))
+        → Lengthens (W.ids walker.old) units.old (length (W.written walker.old))
         (W.ids walker.new) units.new (length (W.written walker.new))) }
     ensures undoable { IsUndoable units.old (W.written walker.old) units.new (W.written walker.new) }
 {

@@ -11,7 +11,7 @@ pub trait Walker {
     ghost use Rattle.sat_rules.specs.Clauses.{is_tautology};
     ghost use Rattle.checker_rules.specs.State.{Stored, StoredUnit, some_true_unit, start_set};
     ghost use Rattle.clause_store.specs.declared.clauses.units.UnitClause.{UnitClause};
-    ghost use Rattle.clause_store.specs.Idle.{LengthensRun};
+    ghost use Rattle.clause_store.specs.Idle.{Lengthens};
     ghost use Rattle.clause_store.specs.Lits.{IsWithin, lits_of};
     ghost use Rattle.clause_store.specs.Rup.{Walks, lits_in, true_lits};
     ghost use Rattle.clause_store.specs.StateOf.{stored_units};
@@ -76,7 +76,7 @@ pub trait Walker {
         ensures listed { IfOk result (Lists after (ids self.old) units.old
             (stored_of buffer.now clause.now ∷ []) (ids self.new) units.new) }
         ensures lengthens { IfOk result (λ falsified. falsified ≡ false
-            → LengthensRun (ids self.old) units.old (length (written self.old))
+            → Lengthens (ids self.old) units.old (length (written self.old))
             (ids self.new) units.new (length (written self.new))) }
         ensures undoable { IsUndoable units.old (written self.old) units.new (written self.new) };
 

@@ -17,8 +17,7 @@ loop-lit-preserved c =
         listed = sym (w.in_ok-list_unit-in-Some-false.ensures.listed _) ∙ before;
         kept = keeps-then _ us _ inv.kept w.list_unit.ensures.kept;
         true_lits = cc;
-        lengthens = lengthens_then _ _ _ _ _ _ inv.lengthens w.in_ok-list_unit-in-Some-false.ensures.lengthens;
-        lengthens_ids = lengthens_then _ _ _ _ _ _ inv.lengthens_ids w.in_ok-list_unit-in-Some-false.ensures.lengthens_ids;
+        lengthens = lengthens_then _ _ _ _ _ _ _ _ _ inv.lengthens w.in_ok-list_unit-in-Some-false.ensures.lengthens;
         undoable = is_undoable_then _ _ _ _ _ _ inv.undoable w.list_unit.ensures.undoable;
       })
       | in-None w ↦
@@ -28,7 +27,6 @@ loop-lit-preserved c =
             kept = inv.kept;
             true_lits = inv.true_lits;
             lengthens = inv.lengthens;
-            lengthens_ids = inv.lengthens_ids;
             undoable = inv.undoable;
           })
     ]

@@ -10,7 +10,6 @@ invariant-loop-lit l = record {
   listed : looked l.trace.items l.units (drop l.lit-index l.lits) ≡ looked l.initial.trace.items l.initial.units l.lits;
   kept : KeepsStored l.initial.units l.units;
   true_lits : true_lits l.units ≡ true_lits l.initial.units;
-  lengthens : Lengthens l.initial.units (length l.initial.trail.items) l.units (length l.trail.items);
-  lengthens_ids : Lengthens l.initial.trace.items (length l.initial.trail.items) l.trace.items (length l.trail.items);
+  lengthens : Lengthens l.initial.trace.items l.initial.units (length l.initial.trail.items) l.trace.items l.units (length l.trail.items);
   undoable : IsUndoable l.initial.units l.initial.trail.items l.units l.trail.items;
 }

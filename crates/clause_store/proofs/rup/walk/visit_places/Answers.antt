@@ -25,7 +25,7 @@ loop-place-preserved g c =
           c.loop-place.units c.visit.new.units _ (rw c.if-branch.false at given.ok) v.same;
       listed = λ rest. sym (place-listed c.args.buffer.now c.args.places.now c.loop-place.place-index _ c.loop-place-test.true c.in-Some.clause is
           g.W.Walker.after (g.W.Walker.ids c.loop-place.walker) (g.W.Walker.ids c.visit.new.self) c.loop-place.units c.visit.new.units rest false (rw c.if-branch.false at given.listed)) ∙ v.listed rest;
-      lengthens = record { units = lengthens_then _ _ _ _ _ _ v.lengthens.units longer.units; listed = lengthens_then _ _ _ _ _ _ v.lengthens.listed longer.listed };
+      lengthens = lengthens_then _ _ _ _ _ _ _ _ _ v.lengthens longer;
       undoable = is_undoable_then _ _ _ _ _ _ v.undoable c.visit.ensures.undoable;
     }
 

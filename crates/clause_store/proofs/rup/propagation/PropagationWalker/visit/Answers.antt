@@ -49,6 +49,4 @@ clause_status-status-requires c = rw c.slice-lits.ensures c.requires.known
 
 pub returns-in_ok-overwrite-in-Unit-clause-lengthens : goal.returns-in_ok-overwrite-in-Unit-clause-lengthens
 returns-in_ok-overwrite-in-Unit-clause-lengthens c = λ _.
-    let listed = c.in_ok-list_units.ensures in
-    let longer = c.in_ok-overwrite-in-Unit.ensures.longer in
-    record { units = lengthens_then_longer _ _ _ _ _ _ listed.lengthens longer; listed = lengthens_then_longer _ _ _ _ _ _ listed.lengthens_ids longer }
+    lengthens_then_longer _ _ _ _ _ _ _ _ _ c.in_ok-list_units.ensures.lengthens c.in_ok-overwrite-in-Unit.ensures.longer

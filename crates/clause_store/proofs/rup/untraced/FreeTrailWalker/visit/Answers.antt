@@ -27,7 +27,4 @@ pub returns-in_ok-give-in-Unit-clause-lengthens : goal.returns-in_ok-give-in-Uni
 returns-in_ok-give-in-Unit-clause-lengthens c = λ _.
     let ms = c.args.self.now.items in let now = c.give.new.trail.items in
     let longer : length (freed now) ≡ length (freed ms) + 1 = cc (freed-length ms, freed-length now, c.in_ok-give-in-Unit.ensures.longer) in
-    record {
-      units = record { no_shorter = omega arith; still = λ same. absurd (omega arith) };
-      listed = record { no_shorter = omega arith; still = λ _. refl };
-    }
+    record { no_shorter = omega arith; listed = λ _. refl; units = λ same. absurd (omega arith) }
