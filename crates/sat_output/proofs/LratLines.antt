@@ -15,7 +15,7 @@ use Rattle.lrat_text.specs.Texts.{Ended, lines_from, short_before}
 use Rattle.sat_formula.specs.Lines.{lines_of}
 use Rattle.sat_formula.specs.Outcome.{next_line}
 use Rattle.sat_formula.specs.Vars.{lit_code}
-use Rattle.written_numbers.specs.Words.{IsCode, IsId, line_text, literal_text}
+use Rattle.written_numbers.specs.Words.{IsCode, IsId, literal_text}
 use Rattle.written_numbers.proofs.SpacedWords.{lines_of-line_text, words_of-line_text}
 use Rattle.written_numbers.proofs.WrittenWords.{IsWord, decimal_is, decimal_is_word, digits_value, literal_by, literal_is_word, literal_no_d, signed_is_word, words_are, zero_is_word}
 use Rattle.sat_output.specs.LratTexts.{HasFittingNumbers, IsHint, LinesAreRead, hint_text, last_after, lines_text, numbered, words_before_end}
