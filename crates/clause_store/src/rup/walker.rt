@@ -37,7 +37,7 @@ pub trait Walker {
     fn trail_len(&self) -> usize
         ensures { result ≡ length (written self.now) };
 
-    /// Takes the literals as false, or finds one that is true already. Returns whether it found one.
+    /// Takes the literals as false, unless one of them is true already. Returns whether one is.
     ///
     /// # Errors
     ///
