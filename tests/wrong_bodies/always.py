@@ -88,7 +88,7 @@ def write_holes(crate, names, room):
                 to.write(HOLE.format(crate=crate, path=place.replace("/", "."), name=function.name))
 
 
-def check(crate, names, room, alone):
+def check(crate, names, room, alone, jobs=1):
     """Checks the copies, and beside them those that are no copies, which nothing here calls: each is changed where it is."""
     asked = names + [it.name for it in alone]
     write_holes(os.path.basename(crate), {it.rpartition("::")[2] for it in asked}, room)
@@ -97,12 +97,12 @@ def check(crate, names, room, alone):
             text = source.read()
         with open(f"{room}/{file}", "w", encoding="utf-8") as to:
             to.write(text.replace(old, new))
-    told = toolchain.check_past_holes(crate, asked, room)
+    told = toolchain.check_past_holes(crate, asked, room, jobs)
     read_judgements(told, alone)
     return told
 
 
-def try_crate(name, names):
+def try_crate(name, names, jobs):
     """The wrong bodies of this crate, each with what the check says of it."""
     crate = f"{ROOT}/crates/{name}"
     toolchain.build_below(crate)
@@ -111,18 +111,19 @@ def try_crate(name, names):
     alone = [it for it in wrongs if it.name and it.only]
     with tempfile.TemporaryDirectory(prefix="wrong-bodies-") as room:
         if copies:
-            judge(crate, copies, room, functools.partial(check, alone=alone))
+            judge(crate, copies, room, functools.partial(check, alone=alone, jobs=jobs))
         elif alone:
             toolchain.copy_crate(crate, room)
-            check(crate, [], room, alone)
+            check(crate, [], room, alone, jobs)
     return wrongs
 
 
 def try_all():
-    """Tries all of the list, in one check for each crate, and answers whether each was refused."""
-    jobs = int(os.environ.get("RT_JOBS", os.cpu_count() or 1))
+    """Tries all of the list, in one check for each crate, which has as many jobs as is its share, and answers whether each was refused."""
+    jobs, asked = int(os.environ.get("RT_JOBS", os.cpu_count() or 1)), listed()
+    count = sum(map(len, asked.values()))
     with concurrent.futures.ThreadPoolExecutor(jobs) as pool:
-        begun = {name: pool.submit(try_crate, name, names) for name, names in listed().items()}
+        begun = {name: pool.submit(try_crate, name, names, -(-jobs * len(names) // count)) for name, names in asked.items()}
         tried = [(name, it) for name, wrongs in begun.items() for it in wrongs.result()]
     bad = [(name, it) for name, it in tried if not kinds.is_refused_past_holes(it)]
     for name, it in bad:

@@ -115,22 +115,24 @@ class Trial:
             it.said = kinds.said_past_holes(it)
 
     def end(self):
-        """Says what is wrong, or else notes that all were refused; and answers whether they were."""
-        name, say = self.name, self.say
-        for it in self.controls:
-            if not (it.said or "").startswith("proved"):
-                say.append(f"{name}/{it.function.name}: THE UNCHANGED COPY IS NOT PROVED: {(it.said or 'no line')[:300]}")
+        """Says what is wrong, and notes which were refused, if each unchanged copy is proved; and answers whether all were."""
+        name, say, bad = self.name, self.say, set()
+        unproved = [it for it in self.controls if not (it.said or "").startswith("proved")]
+        for it in unproved:
+            say.append(f"{name}/{it.function.name}: THE UNCHANGED COPY IS NOT PROVED: {(it.said or 'no line')[:300]}")
         for it in self.rights + self.rights_alone:
             if not (it.said or "").startswith("proved"):
                 say.append(f"{name}/{it.label}: THE RIGHT BODY IS NOT PROVED: {(it.said or 'no line')[:300]}")
+                bad.add(it.label)
         tried = self.wrongs + self.alone
         for it in tried:
             if not kinds.is_refused(it):
                 say.append(f"{name}/{it.label}: NOT REFUSED: {it.name}: {(it.said or 'no line')[:300]}")
-        found = {it.label: "clause" if kinds.is_by_clause(it) else "proof" for it in tried}
+                bad.add(it.label)
         well = not say
-        if well:
-            Record(self.crate).note(found)
+        found = {it.label: "clause" if kinds.is_by_clause(it) else "proof" for it in tried}
+        if found and not unproved:
+            Record(self.crate).note({label: kind for label, kind in found.items() if label not in bad})
         refused, by_clause = sum(map(kinds.is_refused, tried)), list(found.values()).count("clause")
         say.append(f"{name}: {refused} of {len(self.bodies)} refused, {by_clause} of them by a clause, ")
         say[-1] += f"{len(self.controls)} unchanged copies tried"

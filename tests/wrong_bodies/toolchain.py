@@ -67,14 +67,14 @@ def check_copies(crate, names, room):
     return check_alone(crate, names, room, "--incremental", f"{room}/over")
 
 
-def check_past_holes(crate, names, room):
+def check_past_holes(crate, names, room, jobs=1):
     """Checks these functions alone, over nothing; a function whose proof is a hole is taken by its contract."""
-    return check_alone(crate, names, room, "--allow-holes")
+    return check_alone(crate, names, room, "--allow-holes", jobs=jobs)
 
 
-def check_alone(crate, names, room, *flags):
+def check_alone(crate, names, room, *flags, jobs=1):
     of = rtlib.Crate(crate, rtlib.root_above(crate), {})
-    words = [rtlib.RATTLE, "check", *of.words(["--jobs", "1"], keeps=False), *flags]
+    words = [rtlib.RATTLE, "check", *of.words(["--jobs", str(jobs)], keeps=False), *flags]
     for name in names:
         words += ["--only", name]
     ran = subprocess.run(
