@@ -6,6 +6,7 @@ use Rattle.std.proofs.KnownBytes.{Appends-kept, Appends-nil, Appends-trans, Keep
 use Rattle.std.specs.Prelude.{OnErr, OnOk}
 use Rattle.sat_formula.specs.Readings.{Known}
 use Rattle.whole_writes.specs.Beginnings.{AppendsBeginning}
+use Rattle.written_numbers.specs.Words.{line_text}
 use Rattle.sat_rules.specs.Named.{Item}
 use Rattle.lrat_rules.specs.Lines.{Line, accepts, after, run, then_run}
 use Rattle.lrat_rules.specs.Stores.{formula_store}
@@ -14,7 +15,7 @@ use Rattle.lrat_checker.specs.declared.checker.LratChecker.{LratChecker}
 use Rattle.sat_output.specs.DratTexts.{adds_clause, step_text, steps_text}
 use Rattle.sat_output.specs.LineForms.{lines_in}
 use Rattle.sat_output.specs.LratBytes.{line_bytes, lines_bytes}
-use Rattle.sat_output.specs.LratTexts.{last_after, line_text, lines_text, words_before_end}
+use Rattle.sat_output.specs.LratTexts.{last_after, lines_text, words_before_end}
 use Rattle.sat_output.specs.declared.form.LineForm.{LineForm}
 use Rattle.sat_output.specs.declared.form.LineForm.TheVariants.{Text, Binary}
 use Rattle.sat_output.proofs.Beginnings.{begins_front, begins_nothing, begins_past, begins_whole}
