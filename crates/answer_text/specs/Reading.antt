@@ -1,6 +1,6 @@
 -- What reading an answer gives.
 --     ListsThe known table      the literals that the text lists are in the set
---     FailsBy known fault      why no literals are given
+--     AnswerFault, FailsBy known fault      a fault of an answer;  why no literals are given
 use Rattle.std.specs.Prelude.{◌≡◌, ℕ, List, Option, Result, Ok, Err, IfSome}
 use Rattle.sat_formula.specs.Readings.{Leads}
 use Rattle.answer_text.specs.declared.fault.AnswerKind.{AnswerKind}
@@ -32,8 +32,12 @@ pub record ListsThe (known : Option (List ℕ)) (table : Literals) : Type 0 wher
   pub apart : IsConsistent (listed lits)
   pub has : HasThe lits table
 
+-- a fault of an answer
+abbrev pub AnswerFault : Type 0
+AnswerFault = ReadFault LineNumber AnswerKind
+
 -- why no literals are given: the text has this fault; a failed read and running out of memory can come anywhere
-abbrev pub FailsBy : Option (List ℕ) → ReadFault LineNumber AnswerKind → Type 0
+abbrev pub FailsBy : Option (List ℕ) → AnswerFault → Type 0
 FailsBy known (faults.Read e) = Unit {0}
 FailsBy known (faults.Wrong at kind) = IsOutcome known (Faulty at.0 kind)
 FailsBy known faults.OutOfMemory = Unit {0}

@@ -11,9 +11,7 @@ use Rattle.lrat_text.specs.declared.fault.LratTextFault.{LratTextFault}
 use Rattle.lrat_text.specs.declared.fault.LratTextFault.TheVariants as texts
 use Rattle.drat_elaborate.specs.declared.fault.ElaborateFault.{ElaborateFault}
 use Rattle.drat_elaborate.specs.declared.fault.ElaborateFault.TheVariants as elaborated
-use Rattle.answer_text.specs.declared.fault.AnswerKind.{AnswerKind}
-use Rattle.sat_formula.specs.declared.read_fault.LineNumber.{LineNumber}
-use Rattle.sat_formula.specs.declared.read_fault.ReadFault.{ReadFault}
+use Rattle.answer_text.specs.Reading.{AnswerFault}
 use Rattle.sat_formula.specs.declared.read_fault.ReadFault.TheVariants as answers
 use Rattle.verdicts.specs.Statuses.{status_of}
 use Rattle.verdicts.specs.Verdicts.{shows_unsat}
@@ -93,9 +91,9 @@ drat_status (Err (drat_fault.Write cause)) = 1
 
 -- ---- models
 
-abbrev pub answer_status : ReadFault LineNumber AnswerKind → ℕ
+abbrev pub answer_status : AnswerFault → ℕ
 answer_status (answers.Read cause) = 1
-answer_status (answers.Wrong at kind) = 1
+answer_status (answers.Wrong line kind) = 1
 answer_status answers.OutOfMemory = 4
 
 abbrev pub model_status : Result model_verdict.Verdict model.RunFault → ℕ

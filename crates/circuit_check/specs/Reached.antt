@@ -7,9 +7,7 @@ use Rattle.whole_writes.specs.Beginnings.{AppendsBeginning}
 use Rattle.circuit_text.specs.declared.circuit.Circuit as read
 use Rattle.circuit_text.specs.Reading as circuits
 use Rattle.stimulus_text.specs.Reading as stimuli
-use Rattle.stimulus_text.specs.declared.fault.StimulusKind.{StimulusKind}
-use Rattle.sat_formula.specs.declared.read_fault.LineNumber.{LineNumber}
-use Rattle.sat_formula.specs.declared.read_fault.ReadFault.{ReadFault}
+use Rattle.stimulus_text.specs.Reading.{StimulusFault}
 use Rattle.stimulus_text.specs.declared.spot.Shape.{Shape}
 use Rattle.stimulus_text.specs.declared.stimulus.Stimulus.{Stimulus}
 use Rattle.circuit_clauses.specs.Causes.{IsCause}
@@ -32,7 +30,7 @@ pub record OfReach (known known' : Option (List ℕ)) (P : read.Circuit → Stim
   pub holds : P circuit stimulus
 
 -- the text says a machine, and the stimulus has this fault
-pub record FailsStimulus (known known' : Option (List ℕ)) (fault : ReadFault LineNumber StimulusKind) : Type 0 where
+pub record FailsStimulus (known known' : Option (List ℕ)) (fault : StimulusFault) : Type 0 where
   pub circuit : read.Circuit
   pub says : circuits.IsRead known circuit
   pub fails : stimuli.FailsBy (shape_of circuit) known' fault

@@ -1,6 +1,6 @@
 -- What reading a stimulus gives.
 --     IsRead shape known s      the text says this stimulus
---     FailsBy shape known fault      why no stimulus is given
+--     StimulusFault, FailsBy shape known fault      a fault of a stimulus;  why no stimulus is given
 use Rattle.std.specs.Prelude.{◌≡◌, ℕ, List, Option, Result, Ok, Err, IfSome}
 use Rattle.stimulus_text.specs.declared.fault.StimulusKind.{StimulusKind}
 use Rattle.sat_formula.specs.declared.read_fault.LineNumber.{LineNumber}
@@ -27,8 +27,12 @@ said_by s = Says s.first.items (inputs_in s.steps.items)
 abbrev pub IsRead : Shape → Option (List ℕ) → Stimulus → Type 0
 IsRead shape known s = IsOutcome shape known (said_by s)
 
+-- a fault of a stimulus
+abbrev pub StimulusFault : Type 0
+StimulusFault = ReadFault LineNumber StimulusKind
+
 -- why no stimulus is given: the text has this fault; a failed read and running out of memory can come anywhere
-abbrev pub FailsBy : Shape → Option (List ℕ) → ReadFault LineNumber StimulusKind → Type 0
+abbrev pub FailsBy : Shape → Option (List ℕ) → StimulusFault → Type 0
 FailsBy shape known (faults.Read e) = Unit {0}
 FailsBy shape known (faults.Wrong at kind) = IsOutcome shape known (Faulty at.0 kind)
 FailsBy shape known faults.OutOfMemory = Unit {0}
