@@ -48,7 +48,7 @@ all_of() {
   {
     grep -Ev ' (test\.sh|tests/[^/]*\.sh|crates/[^/]*/(proofs|wrong-bodies)/.*)$' "$told/files" | grep -Ev "$documents"
     cat "$script" tests/lib.sh
-    grep -q 'git ' "$script" && git rev-parse HEAD
+    grep -q '\(^\|[^.]\)git ' "$script" && git rev-parse HEAD
   } 2> "$told/$1.none" | sha256sum | cut -c 1-64
 }
 
