@@ -1,11 +1,9 @@
 -- A status of 0 is that of a verified run.
 use Rattle.std.proofs.Common.{◌≡◌, Result, Ok, Err, refl, arith}
 use Rattle.sat_formula.specs.declared.fault.DimacsFault.TheVariants as dimacs
+use Rattle.sat_formula.specs.declared.read_fault.ReadFault.TheVariants as reads
 use Rattle.lrat_checker.specs.declared.fault.LratFault.TheVariants as lines
-use Rattle.drat_text.specs.declared.fault.DratFault.TheVariants as steps
-use Rattle.lrat_text.specs.declared.fault.LratTextFault.TheVariants as texts
 use Rattle.drat_elaborate.specs.declared.fault.ElaborateFault.TheVariants as elaborated
-use Rattle.sat_formula.specs.declared.read_fault.ReadFault.TheVariants as answers
 use Rattle.verdicts.specs.declared.verdict.Verdict.{Verdict}
 use Rattle.verdicts.specs.declared.verdict.Verdict.TheVariants.{Verified}
 use Rattle.lrat_check.specs.declared.fault.RunFault as lrat
@@ -28,13 +26,13 @@ lrat_verified r is = absurd (omega arith)
 pub drat_verified : (r : Result Verdict drat.RunFault) → drat_status r ≡ 0 → r ≡ Ok Verified
 drat_verified (Ok Verified) is = refl
 drat_verified (Err (drat_fault.Formula dimacs.OutOfMemory)) is = absurd (omega arith)
-drat_verified (Err (drat_fault.Proof (proofs.Unread steps.OutOfMemory))) is = absurd (omega arith)
-drat_verified (Err (drat_fault.Proof (proofs.UnreadLine texts.OutOfMemory))) is = absurd (omega arith)
+drat_verified (Err (drat_fault.Proof (proofs.Unread reads.OutOfMemory))) is = absurd (omega arith)
+drat_verified (Err (drat_fault.Proof (proofs.UnreadLine reads.OutOfMemory))) is = absurd (omega arith)
 drat_verified (Err (drat_fault.Proof (proofs.Refused elaborated.OutOfMemory))) is = absurd (omega arith)
 drat_verified r is = absurd (omega arith)
 
 pub model_verified : (r : Result model_verdict.Verdict model.RunFault) → model_status r ≡ 0 → r ≡ Ok model_verdicts.Verified
 model_verified (Ok model_verdicts.Verified) is = refl
-model_verified (Err (model_fault.Answer answers.OutOfMemory)) is = absurd (omega arith)
+model_verified (Err (model_fault.Answer reads.OutOfMemory)) is = absurd (omega arith)
 model_verified (Err (model_fault.Formula dimacs.OutOfMemory)) is = absurd (omega arith)
 model_verified r is = absurd (omega arith)

@@ -1,18 +1,15 @@
 -- Statuses of calls: those of the programs, but 4 where there was no memory.
---     formula_status, lrat_status, drat_status, model_status      of a formula's fault, and of the runs of three programs
+--     formula_status, read_status      of the fault of a formula;  of that of a proof or an answer
+--     lrat_status, drat_status, model_status      of the runs of three programs
 use Rattle.std.specs.Prelude.{ℕ, Result, Ok, Err}
 use Rattle.sat_formula.specs.declared.fault.DimacsFault.{DimacsFault}
 use Rattle.sat_formula.specs.declared.fault.DimacsFault.TheVariants as dimacs
+use Rattle.sat_formula.specs.declared.read_fault.ReadFault.{ReadFault}
+use Rattle.sat_formula.specs.declared.read_fault.ReadFault.TheVariants as reads
 use Rattle.lrat_checker.specs.declared.fault.LratFault.{LratFault}
 use Rattle.lrat_checker.specs.declared.fault.LratFault.TheVariants as lines
-use Rattle.drat_text.specs.declared.fault.DratFault.{DratFault}
-use Rattle.drat_text.specs.declared.fault.DratFault.TheVariants as steps
-use Rattle.lrat_text.specs.declared.fault.LratTextFault.{LratTextFault}
-use Rattle.lrat_text.specs.declared.fault.LratTextFault.TheVariants as texts
 use Rattle.drat_elaborate.specs.declared.fault.ElaborateFault.{ElaborateFault}
 use Rattle.drat_elaborate.specs.declared.fault.ElaborateFault.TheVariants as elaborated
-use Rattle.answer_text.specs.Reading.{AnswerFault}
-use Rattle.sat_formula.specs.declared.read_fault.ReadFault.TheVariants as answers
 use Rattle.verdicts.specs.Statuses.{status_of}
 use Rattle.verdicts.specs.Verdicts.{shows_unsat}
 use Rattle.verdicts.specs.declared.verdict.Verdict.{Verdict}
@@ -32,6 +29,12 @@ formula_status (dimacs.Read cause) = 1
 formula_status (dimacs.Malformed line kind) = 1
 formula_status dimacs.OutOfMemory = 4
 
+-- of a proof or an answer
+abbrev pub read_status : {P K : Type 0} → ReadFault P K → ℕ
+read_status (reads.Read cause) = 1
+read_status (reads.Wrong at kind) = 1
+read_status reads.OutOfMemory = 4
+
 -- ---- LRAT
 
 abbrev pub lines_status : LratFault → ℕ
@@ -50,16 +53,6 @@ lrat_status (Err (lrat_fault.Write cause)) = 1
 
 -- ---- DRAT, DPR, FRAT and LPR
 
-abbrev pub steps_status : DratFault → ℕ
-steps_status (steps.Read cause) = 1
-steps_status (steps.Step step kind) = 1
-steps_status steps.OutOfMemory = 4
-
-abbrev pub text_status : LratTextFault → ℕ
-text_status (texts.Read cause) = 1
-text_status (texts.Line line kind) = 1
-text_status texts.OutOfMemory = 4
-
 abbrev pub elaborated_status : ElaborateFault → ℕ
 elaborated_status elaborated.OutOfMemory = 4
 elaborated_status elaborated.TooLong = 1
@@ -72,8 +65,8 @@ elaborated_status (elaborated.NoConflict steps) = 1
 elaborated_status elaborated.Internal = 1
 
 abbrev pub proof_status : ProofFault → ℕ
-proof_status (proofs.Unread fault) = steps_status fault
-proof_status (proofs.UnreadLine fault) = text_status fault
+proof_status (proofs.Unread fault) = read_status fault
+proof_status (proofs.UnreadLine fault) = read_status fault
 proof_status (proofs.Refused fault) = elaborated_status fault
 proof_status (proofs.Internal line fault) = 1
 proof_status proofs.Unfinished = 1
@@ -91,14 +84,9 @@ drat_status (Err (drat_fault.Write cause)) = 1
 
 -- ---- models
 
-abbrev pub answer_status : AnswerFault → ℕ
-answer_status (answers.Read cause) = 1
-answer_status (answers.Wrong line kind) = 1
-answer_status answers.OutOfMemory = 4
-
 abbrev pub model_status : Result model_verdict.Verdict model.RunFault → ℕ
 model_status (Ok verdict) = status_of {E = model.RunFault} shows_sat (Ok verdict)
-model_status (Err (model_fault.Answer fault)) = answer_status fault
+model_status (Err (model_fault.Answer fault)) = read_status fault
 model_status (Err (model_fault.Formula fault)) = formula_status fault
 model_status (Err (model_fault.Cut cut)) = 1
 model_status (Err (model_fault.Write cause)) = 1

@@ -3,8 +3,8 @@ use Rattle.std.specs.Prelude.{◌≡◌, ℕ, Bool, List, Option, Result, Ok, Er
 use Rattle.std.specs.Io.KnownBytes.{Keeps}
 use Rattle.sat_formula.specs.declared.source.Source.{Source}
 use Rattle.sat_formula.specs.Source.{IsErrorOf}
-use Rattle.drat_text.specs.declared.fault.DratFault.{DratFault}
-use Rattle.drat_text.specs.declared.fault.DratFault.TheVariants as faults
+use Rattle.sat_formula.specs.declared.read_fault.ReadFault.TheVariants as faults
+use Rattle.drat_text.specs.Faults.{DratFault}
 use Rattle.drat_text.specs.FratBytes.{is_frat}
 
 -- whether the bytes are FRAT, none of which was taken
@@ -13,5 +13,5 @@ abbrev pub TellsFrat : {R : Type 0} → Option (List ℕ) → Option (List ℕ) 
 TellsFrat old new source (Ok answer) =
     Keeps old new × IfSome old (λ bytes. answer ≡ is_frat bytes)
 TellsFrat old new source (Err (faults.Read e)) = Keeps old new × IsErrorOf source e
-TellsFrat old new source (Err (faults.Step number kind)) = ⊥
+TellsFrat old new source (Err (faults.Wrong at kind)) = ⊥
 TellsFrat old new source (Err faults.OutOfMemory) = Unit {0}

@@ -1,6 +1,7 @@
 pub mod Bytes
 pub mod Numbers
 pub mod Steps
+pub mod Faults
 pub mod Codes
 pub mod Places
 pub mod Proofs
@@ -8,7 +9,6 @@ pub mod Taking
 pub mod Reading
 pub mod NextStep
 pub mod DratRules
-pub mod DratSteps
 pub mod Rows
 pub mod FratSlots
 pub mod FratProofs
@@ -16,5 +16,4 @@ pub mod FratBytes
 pub mod FratRules
 pub mod FratDrafts
 pub mod FratTelling
-pub mod FratSteps
 pub mod FratRows

@@ -9,8 +9,8 @@ use Rattle.sat_formula.specs.declared.source.Source.{Source}
 use Rattle.sat_formula.specs.Source.{IsErrorOf, IsStopped}
 use Rattle.drat_text.specs.declared.bytes.Format.{Format}
 use Rattle.drat_text.specs.declared.bytes.Format.TheVariants as formats
-use Rattle.drat_text.specs.declared.fault.DratFault.{DratFault}
-use Rattle.drat_text.specs.declared.fault.DratFault.TheVariants as faults
+use Rattle.sat_formula.specs.declared.read_fault.ReadFault.TheVariants as faults
+use Rattle.drat_text.specs.Faults.{DratFault, step_fault}
 use Rattle.drat_text.specs.declared.fault.DratKind.{DratKind}
 use Rattle.sat_formula.specs.declared.stop.Stop.{Stop}
 use Rattle.sat_formula.specs.declared.stop.Stop.TheVariants as stops
@@ -75,9 +75,9 @@ abbrev pub Explains : {R X : Type 0} → Source R → ℕ → Stop DratKind → 
 Explains source steps stops.End r = r ≡ Ok None
 Explains source steps stops.Read (Ok x) = ⊥
 Explains source steps stops.Read (Err (faults.Read e)) = IsErrorOf source e
-Explains source steps stops.Read (Err (faults.Step number kind)) = ⊥
+Explains source steps stops.Read (Err (faults.Wrong at kind)) = ⊥
 Explains source steps stops.Read (Err faults.OutOfMemory) = ⊥
-Explains source steps (stops.Wrong kind) r = r ≡ Err (faults.Step (next_line steps) kind)
+Explains source steps (stops.Wrong kind) r = r ≡ Err (step_fault (next_line steps) kind)
 Explains source steps stops.OutOfMemory r = r ≡ Err faults.OutOfMemory
 
 -- ---- a call, by the rules of the proof
@@ -112,11 +112,11 @@ module _ {G R S T : Type 0} (rules : Rules S T) (remaining : R → Option (List 
       Breaks (outcome_at rules (format_now new)) (bytes_left remaining old)
       (bytes_left remaining new) (left_to_say new)
       × IsReadError new e × (steps_given new ≡ steps_given old) × (has_ended new ≡ true)
-  Answers seen old new (Err (faults.Step number kind)) =
+  Answers seen old new (Err (faults.Wrong at kind)) =
       Fails (bytes_left remaining old) (bytes_left remaining new) (left_to_say new)
       ([], Faulty kind)
       × TellsFormat old new
-      × (number ≡ next_line (steps_given old))
+      × (at.0 ≡ next_line (steps_given old))
       × (steps_given new ≡ steps_given old) × (has_ended new ≡ true)
   Answers seen old new (Err faults.OutOfMemory) =
       (steps_given new ≡ steps_given old) × (has_ended new ≡ true)

@@ -25,27 +25,19 @@ pub enum DratStep<'a> {
 
 /// What a step does with its clause.
 #[derive(Clone, Copy)]
-pub(crate) enum Action {
+pub enum Action {
     Add,
     Delete,
 }
 
 /// What was read of a step.
 #[derive(Drop)]
-pub(crate) struct Draft {
+pub struct Draft {
     action: Action,
     lits: Vec<Lit>,
 }
 
 impl Draft {
-    /// Returns a draft in which no step is begun. Allocates no memory.
-    pub(crate) fn new(alloc: Global) -> Draft {
-        Draft {
-            action: Action::Add,
-            lits: Vec::new(alloc),
-        }
-    }
-
     fn begin_step(&mut self, action: Action)
         ensures { slot_of self.new ≡ (action, []) }
     {
@@ -77,6 +69,13 @@ impl Grammar for Draft {
 
     ghost step_of = { λ draft action. step_of action draft.lits.items };
 
+    fn new(alloc: Global) -> Draft {
+        Draft {
+            action: Action::Add,
+            lits: Vec::new(alloc),
+        }
+    }
+
     #[inline(always)]
     fn begins_comment(byte: u8) -> bool {
         begins_comment(byte)
@@ -103,13 +102,12 @@ impl Grammar for Draft {
 
     #[inline(always)]
     fn take(&mut self, negative: bool, value: u64) -> Result<Option<Action>, Stop<DratKind>> {
-        match lit_said(negative, value) {
-            Ok(Some(lit)) => {
+        match lit_said(negative, value)? {
+            Some(lit) => {
                 self.lits.push(lit)?;
                 Ok(None)
             }
-            Ok(None) => Ok(Some(self.action)),
-            Err(kind) => Err(Stop::Wrong(kind)),
+            None => Ok(Some(self.action)),
         }
     }
 

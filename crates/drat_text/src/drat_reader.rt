@@ -1,13 +1,11 @@
 //! Steps of DRAT from a reader's bytes.
-ghost use Rattle.std.specs.Prelude.{◌≡◌, ◌-◌, ◌^◌, Ok, None, true, false};
+ghost use Rattle.std.specs.Prelude.{◌≡◌, Ok, None, true};
 ghost use Rattle.std.specs.Io.BufRead.{Rests};
 ghost use types.Logic.{sem};
 
-use crate::bytes::Bytes;
 use crate::drat::{Draft, DratStep};
 use crate::fault::DratFault;
 use crate::reader::StepReader;
-use std::alloc::Global;
 use std::io::Read;
 
 /// A reader of the steps of a DRAT proof, one after the other.
@@ -23,42 +21,13 @@ use std::io::Read;
 ///
 /// It keeps the bytes read ahead and one step. Of a proof it takes at most `u64::MAX` bytes; where
 /// it would take more, it is as if a read had failed.
-#[derive(Drop)]
-pub struct DratReader<R> {
-    reader: StepReader<Draft, R>,
-}
+pub type DratReader<R> = StepReader<Draft, R>;
 
-impl<R: Read> DratReader<R> {
-    ghost use Rattle.drat_text.specs.Taking.{room_in, unread_bytes};
-    ghost use Rattle.drat_text.specs.NextStep.{bytes_left, room_left, has_ended, steps_given, known_format, Gives};
+impl<R: Read> StepReader<Draft, R> {
+    ghost use Rattle.drat_text.specs.NextStep.{has_ended, Gives};
     ghost use Rattle.drat_text.specs.DratRules.{drat, view};
-    ghost use Rattle.drat_text.specs.DratSteps.{steps_of};
-    ghost use Rattle.drat_text.specs.contracts.drat_reader.DratReader.{the_row};
-
-    /// Returns a reader at the start of a proof. It takes no memory and reads nothing yet.
-    pub fn new(alloc: Global, input: R) -> DratReader<R>
-        ensures bytes { bytes_left R.remaining (steps_of result) ≡ R.remaining input }
-        ensures room { room_left (steps_of result) ≡ 2 ^ 64 - 1 }
-        ensures steps { steps_given (steps_of result) ≡ 0 }
-        ensures format { known_format (steps_of result) ≡ None }
-        ensures ended { has_ended (steps_of result) ≡ false }
-    {
-        DratReader::over(alloc, Bytes::new(alloc, input))
-    }
-
-    /// Returns a reader of the steps in these bytes, of which none was taken yet.
-    #[doc(hidden)]
-    pub fn over(alloc: Global, bytes: Bytes<R>) -> DratReader<R>
-        ensures bytes { bytes_left R.remaining (steps_of result) ≡ unread_bytes R.remaining bytes }
-        ensures room { room_left (steps_of result) ≡ room_in bytes }
-        ensures steps { steps_given (steps_of result) ≡ 0 }
-        ensures format { known_format (steps_of result) ≡ None }
-        ensures ended { has_ended (steps_of result) ≡ false }
-    {
-        DratReader {
-            reader: StepReader::over(Draft::new(alloc), bytes),
-        }
-    }
+    ghost use Rattle.drat_text.specs.contracts.drat.Draft as draft;
+    ghost use Rattle.drat_text.specs.contracts.reader.StepReader.{the_row};
 
     /// Reads the next step and returns it, or `None` at the end of the proof. Its literals are in
     /// the reader and are valid until the next call.
@@ -70,12 +39,12 @@ impl<R: Read> DratReader<R> {
     /// no step is returned. After the end or an error every call returns `Ok(None)` and reads
     /// nothing more.
     pub fn next_step(&mut self) -> Result<Option<DratStep<'_>>, DratFault>
-        ensures after_end { has_ended (steps_of self.old) ≡ true → result ≡ Ok None }
-        ensures* after_borrow { sem 𝓛 (Rests (the_row R.row) self.entry
-            (λ new. Gives drat R.remaining view (steps_of self.old) (steps_of new) result)) }
+        ensures after_end { has_ended self.old ≡ true → result ≡ Ok None }
+        ensures* after_borrow { sem 𝓛 (Rests (the_row draft.the_row R.row) self.entry
+            (λ new. Gives drat R.remaining view self.old new result)) }
     {
-        match self.reader.read_step()? {
-            Some(action) => Ok(Some(self.reader.draft().step(action))),
+        match self.read_step()? {
+            Some(action) => Ok(Some(self.draft().step(action))),
             None => Ok(None),
         }
     }

@@ -1,5 +1,9 @@
 //! Why a step could not be read.
-use std::io;
+ghost use Rattle.std.specs.Prelude.{◌≡◌};
+ghost use Rattle.sat_formula.specs.declared.stop.Stop.TheVariants as stops;
+
+use sat_formula::read_fault::{FaultKind, ReadFault};
+use sat_formula::stop::Stop;
 use thiserror::Error;
 
 /// What is wrong with a step.
@@ -17,16 +21,22 @@ pub enum DratKind {
     Unfinished,
 }
 
-/// Why a reader of steps gave up.
-#[derive(Debug, Drop, Error)]
-pub enum DratFault {
-    /// A read failed, or the proof is longer than any that is read.
-    #[error("error reading proof: {0}")]
-    Read(io::Error),
-    /// The first fault of the proof, and its step; steps count from 1.
-    #[error("step {step}: {kind}")]
-    Step { step: u64, kind: DratKind },
-    /// There was no memory for a step or for the bytes read ahead.
-    #[error("out of memory")]
-    OutOfMemory,
+/// The number of a step; steps count from 1.
+#[derive(Clone, Copy, Debug, PartialEq, Eq, Error)]
+#[error("step {0}")]
+pub struct StepNumber(pub u64);
+
+impl FaultKind for DratKind {
+    const TEXT: &'static str = "proof";
 }
+
+impl From<DratKind> for Stop<DratKind> {
+    ghost from_gives = { λ kind stop. stop ≡ stops.Wrong kind };
+
+    fn from(kind: DratKind) -> Stop<DratKind> {
+        Stop::Wrong(kind)
+    }
+}
+
+/// Why a reader of steps gave up.
+pub type DratFault = ReadFault<StepNumber, DratKind>;

@@ -41,7 +41,7 @@ pub(crate) enum Due {
 
 /// A step that has ended, without its lists.
 #[derive(Clone, Copy)]
-pub(crate) enum Found {
+pub enum Found {
     Clause(FratAction, u64),
     Hints,
     Renames,
@@ -49,7 +49,7 @@ pub(crate) enum Found {
 
 /// What was read of a step.
 #[derive(Drop)]
-pub(crate) struct Draft {
+pub struct Draft {
     due: Due,
     lits: Vec<Lit>,
     hints: Vec<FratHint>,
@@ -57,16 +57,6 @@ pub(crate) struct Draft {
 }
 
 impl Draft {
-    /// Returns a draft in which no step is begun. Allocates no memory.
-    pub(crate) fn new(alloc: Global) -> Draft {
-        Draft {
-            due: Due::Hint,
-            lits: Vec::new(alloc),
-            hints: Vec::new(alloc),
-            renamings: Vec::new(alloc),
-        }
-    }
-
     /// Takes a literal of a clause, or the 0 after the last.
     #[inline(always)]
     fn take_lit(
@@ -80,13 +70,12 @@ impl Draft {
         ensures { TakesNumber (found_step self.new) (slot_of self.new)
             (said (slot_of self.old) negative value) result }
     {
-        match lit_said(negative, value) {
-            Ok(Some(lit)) => {
+        match lit_said(negative, value)? {
+            Some(lit) => {
                 self.lits.push(lit)?;
                 Ok(None)
             }
-            Ok(None) => Ok(Some(Found::Clause(action, id))),
-            Err(kind) => Err(Stop::Wrong(kind)),
+            None => Ok(Some(Found::Clause(action, id))),
         }
     }
 
@@ -124,14 +113,10 @@ impl Draft {
         ensures { TakesNumber (found_step self.new) (slot_of self.new)
             (said (slot_of self.old) negative value) result }
     {
-        match id_due(negative, value) {
-            Ok(id) => {
-                self.due = Due::Lit(action, id);
-                self.lits.clear();
-                Ok(None)
-            }
-            Err(kind) => Err(Stop::Wrong(kind)),
-        }
+        let id = id_due(negative, value)?;
+        self.due = Due::Lit(action, id);
+        self.lits.clear();
+        Ok(None)
     }
 
     /// Takes an id that a clause has, or the 0 after the last pair.
@@ -164,14 +149,10 @@ impl Draft {
         ensures { TakesNumber (found_step self.new) (slot_of self.new)
             (said (slot_of self.old) negative value) result }
     {
-        match id_due(negative, value) {
-            Ok(to) => {
-                self.renamings.push(Renaming { from, to })?;
-                self.due = Due::From;
-                Ok(None)
-            }
-            Err(kind) => Err(Stop::Wrong(kind)),
-        }
+        let to = id_due(negative, value)?;
+        self.renamings.push(Renaming { from, to })?;
+        self.due = Due::From;
+        Ok(None)
     }
 
     /// Returns the step that has ended.
@@ -202,6 +183,15 @@ impl Grammar for Draft {
     ghost slot_of = { slot_of };
 
     ghost step_of = { found_step };
+
+    fn new(alloc: Global) -> Draft {
+        Draft {
+            due: Due::Hint,
+            lits: Vec::new(alloc),
+            hints: Vec::new(alloc),
+            renamings: Vec::new(alloc),
+        }
+    }
 
     #[inline(always)]
     fn begins_comment(byte: u8) -> bool {

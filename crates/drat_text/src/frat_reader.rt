@@ -1,14 +1,12 @@
 //! Steps of FRAT from a reader's bytes.
-ghost use Rattle.std.specs.Prelude.{◌≡◌, ◌-◌, ◌^◌, Ok, None, true, false};
+ghost use Rattle.std.specs.Prelude.{◌≡◌, Ok, None, true};
 ghost use Rattle.std.specs.Io.BufRead.{Rests};
 ghost use types.Logic.{sem};
 
-use crate::bytes::Bytes;
 use crate::fault::DratFault;
 use crate::frat::Draft;
 use crate::frat_step::FratStep;
 use crate::reader::StepReader;
-use std::alloc::Global;
 use std::io::Read;
 
 /// A reader of the steps of a FRAT proof, one after the other.
@@ -31,43 +29,14 @@ use std::io::Read;
 ///
 /// It keeps the bytes read ahead and one step. Of a proof it takes at most `u64::MAX` bytes; where
 /// it would take more, it is as if a read had failed.
-#[derive(Drop)]
-pub struct FratReader<R> {
-    reader: StepReader<Draft, R>,
-}
+pub type FratReader<R> = StepReader<Draft, R>;
 
-impl<R: Read> FratReader<R> {
-    ghost use Rattle.drat_text.specs.Taking.{room_in, unread_bytes};
-    ghost use Rattle.drat_text.specs.NextStep.{bytes_left, room_left, has_ended, steps_given, known_format, Gives};
+impl<R: Read> StepReader<Draft, R> {
+    ghost use Rattle.drat_text.specs.NextStep.{has_ended, Gives};
     ghost use Rattle.drat_text.specs.FratDrafts.{view};
     ghost use Rattle.drat_text.specs.FratRules.{frat};
-    ghost use Rattle.drat_text.specs.FratSteps.{steps_of};
-    ghost use Rattle.drat_text.specs.contracts.frat_reader.FratReader.{the_row};
-
-    /// Returns a reader at the start of a proof. It takes no memory and reads nothing yet.
-    pub fn new(alloc: Global, input: R) -> FratReader<R>
-        ensures bytes { bytes_left R.remaining (steps_of result) ≡ R.remaining input }
-        ensures room { room_left (steps_of result) ≡ 2 ^ 64 - 1 }
-        ensures steps { steps_given (steps_of result) ≡ 0 }
-        ensures format { known_format (steps_of result) ≡ None }
-        ensures ended { has_ended (steps_of result) ≡ false }
-    {
-        FratReader::over(alloc, Bytes::new(alloc, input))
-    }
-
-    /// Returns a reader of the steps in these bytes, of which none was taken yet.
-    #[doc(hidden)]
-    pub fn over(alloc: Global, bytes: Bytes<R>) -> FratReader<R>
-        ensures bytes { bytes_left R.remaining (steps_of result) ≡ unread_bytes R.remaining bytes }
-        ensures room { room_left (steps_of result) ≡ room_in bytes }
-        ensures steps { steps_given (steps_of result) ≡ 0 }
-        ensures format { known_format (steps_of result) ≡ None }
-        ensures ended { has_ended (steps_of result) ≡ false }
-    {
-        FratReader {
-            reader: StepReader::over(Draft::new(alloc), bytes),
-        }
-    }
+    ghost use Rattle.drat_text.specs.contracts.frat.Draft as draft;
+    ghost use Rattle.drat_text.specs.contracts.reader.StepReader.{the_row};
 
     /// Reads the next step and returns it, or `None` at the end of the proof. Its lists are in the
     /// reader and are valid until the next call.
@@ -79,12 +48,12 @@ impl<R: Read> FratReader<R> {
     /// no step is returned. After the end or an error every call returns `Ok(None)` and reads
     /// nothing more.
     pub fn next_step(&mut self) -> Result<Option<FratStep<'_>>, DratFault>
-        ensures after_end { has_ended (steps_of self.old) ≡ true → result ≡ Ok None }
-        ensures* after_borrow { sem 𝓛 (Rests (the_row R.row) self.entry
-            (λ new. Gives frat R.remaining view (steps_of self.old) (steps_of new) result)) }
+        ensures after_end { has_ended self.old ≡ true → result ≡ Ok None }
+        ensures* after_borrow { sem 𝓛 (Rests (the_row draft.the_row R.row) self.entry
+            (λ new. Gives frat R.remaining view self.old new result)) }
     {
-        match self.reader.read_step()? {
-            Some(found) => Ok(Some(self.reader.draft().step(found))),
+        match self.read_step()? {
+            Some(found) => Ok(Some(self.draft().step(found))),
             None => Ok(None),
         }
     }

@@ -6,6 +6,7 @@ ghost use Rattle.drat_text.specs.Reading.{Begins, TakesNumber};
 use crate::bytes::Format;
 use crate::fault::DratKind;
 use sat_formula::stop::Stop;
+use std::alloc::Global;
 
 /// A kind of proof. A value is a draft: what was read of a step.
 pub trait Grammar: Drop {
@@ -23,6 +24,9 @@ pub trait Grammar: Drop {
     ghost slot_of: { Self → Slot };
 
     ghost step_of: { Self → Self.Found → Step };
+
+    /// Returns a draft in which no step is begun. Allocates no memory.
+    fn new(alloc: Global) -> Self;
 
     /// Returns whether a comment of a text begins with the byte.
     fn begins_comment(byte: u8) -> bool

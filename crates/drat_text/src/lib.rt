@@ -31,7 +31,7 @@ mod text;
 
 pub use drat::DratStep;
 pub use drat_reader::DratReader;
-pub use fault::{DratFault, DratKind};
+pub use fault::{DratFault, DratKind, StepNumber};
 pub use frat_reader::FratReader;
 pub use frat_step::{FratAction, FratHint, FratStep, Renaming};
 pub use frat_telling::is_frat;

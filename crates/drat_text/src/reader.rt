@@ -1,15 +1,16 @@
 //! Steps from a reader's bytes.
-ghost use Rattle.std.specs.Prelude.{◌≡◌, ◌≤◌, Ok, None, Some, true, false};
+ghost use Rattle.std.specs.Prelude.{◌≡◌, ◌≤◌, ◌-◌, ◌^◌, Ok, None, Some, true, false};
 ghost use Rattle.drat_text.specs.Proofs.{format_of};
 ghost use Rattle.drat_text.specs.Taking.{Looks, room_in, source_of, unread_bytes};
 
 use crate::binary::binary_step;
 use crate::bytes::{Bytes, Format};
-use crate::fault::{DratFault, DratKind};
+use crate::fault::{DratFault, DratKind, StepNumber};
 use crate::grammar::Grammar;
 use crate::step::StepEnd;
 use crate::text::text_step;
 use sat_formula::stop::Stop;
+use std::alloc::Global;
 use std::io::Read;
 
 /// A reader of the steps of a proof, one after the other, into a draft.
@@ -34,8 +35,20 @@ impl<G: Grammar, R: Read> StepReader<G, R> {
     ghost use Rattle.sat_formula.specs.Source.{IsStopped};
     ghost use Rattle.drat_text.specs.NextStep.{bytes_left, draft_of, room_left, has_ended, steps_given, known_format, Answers, ReadsOn, SeesFormat, Explains};
 
+    /// Returns a reader at the start of a proof. It takes no memory and reads nothing yet.
+    pub fn new(alloc: Global, input: R) -> StepReader<G, R>
+        ensures bytes { bytes_left R.remaining result ≡ R.remaining input }
+        ensures room { room_left result ≡ 2 ^ 64 - 1 }
+        ensures steps { steps_given result ≡ 0 }
+        ensures format { known_format result ≡ None }
+        ensures ended { has_ended result ≡ false }
+    {
+        StepReader::over(alloc, Bytes::new(alloc, input))
+    }
+
     /// Returns a reader of the steps in these bytes, of which none was taken yet.
-    pub fn over(draft: G, bytes: Bytes<R>) -> StepReader<G, R>
+    #[doc(hidden)]
+    pub fn over(alloc: Global, bytes: Bytes<R>) -> StepReader<G, R>
         ensures bytes { bytes_left R.remaining result ≡ unread_bytes R.remaining bytes }
         ensures room { room_left result ≡ room_in bytes }
         ensures steps { steps_given result ≡ 0 }
@@ -44,7 +57,7 @@ impl<G: Grammar, R: Read> StepReader<G, R> {
     {
         StepReader {
             bytes,
-            draft,
+            draft: G::new(alloc),
             format: None,
             steps: 0,
             ended: false,
@@ -118,8 +131,8 @@ impl<G: Grammar, R: Read> StepReader<G, R> {
         match stop {
             Stop::End => Ok(None),
             Stop::Read => Err(DratFault::Read(self.bytes.error())),
-            Stop::Wrong(kind) => Err(DratFault::Step {
-                step: self.steps.saturating_add(1),
+            Stop::Wrong(kind) => Err(DratFault::Wrong {
+                at: StepNumber(self.steps.saturating_add(1)),
                 kind,
             }),
             Stop::OutOfMemory => Err(DratFault::OutOfMemory),

@@ -5,7 +5,7 @@ use Rattle.sat_rules.specs.HintLines.{Listed}
 use Rattle.sat_formula.specs.Readings.{Known}
 use Rattle.lrat_rules.specs.Lines.{Line}
 use Rattle.lrat_text.specs.Texts.{Ended, Outcome, with_lines}
-use Rattle.lrat_text.specs.declared.fault.LratTextFault.TheVariants as reads
+use Rattle.sat_formula.specs.declared.read_fault.ReadFault.TheVariants as reads
 use Rattle.lrat_binary.specs.Proofs.{outcome_in}
 use Rattle.lrat_binary.specs.TakenLines.{IsExact, TakesLines}
 use Rattle.lrat_binary.specs.declared.ids.LratForm.{LratForm}
@@ -46,9 +46,9 @@ module _ (form : LratForm) (known : Known) (h : Listed) (first now : HintChecker
 
   pub proof_refused : (u : UntakenLine LineFault) → TakesLines form known (λ (c : HintChecker). false) (HasTaken first) (HasRejected first) now (Err u) → IsProofRefusal form known h (of_untaken u)
   proof_refused (Proof (reads.Read cause)) t = tt
-  proof_refused (Proof (reads.Line n kind)) t =
+  proof_refused (Proof (reads.Wrong at kind)) t =
       let k = t.1.leads h held in
-      unread_line form known k.0 t.0 (RefusesIn form h) (λ text. stopped h k.0 t.0 k.1 text form) n t.3.1 kind t.3.0
+      unread_line form known k.0 t.0 (RefusesIn form h) (λ text. stopped h k.0 t.0 k.1 text form) at.0 t.3.1 kind t.3.0
   proof_refused (Proof reads.OutOfMemory) t = (t.3.1.text, t.3.1.gives, tt)
   proof_refused (Sink n fault) t =
       let k = t.2 h held in

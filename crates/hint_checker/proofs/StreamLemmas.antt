@@ -10,7 +10,7 @@ use Rattle.sat_formula.specs.TakenClauses.{Takes}
 use Rattle.lrat_rules.specs.Lines.{Line}
 use Rattle.lrat_text.specs.Texts.{Faulty, Outcome, with_line, with_lines}
 use Rattle.lrat_text.specs.declared.fault.LineKind.{LineKind}
-use Rattle.lrat_text.specs.declared.fault.LratTextFault.TheVariants as reads
+use Rattle.sat_formula.specs.declared.read_fault.ReadFault.TheVariants as reads
 use Rattle.lrat_text.proofs.LineLemmas.{with_lines-more}
 use Rattle.lrat_binary.specs.Proofs.{outcome_in}
 use Rattle.lrat_binary.specs.TakenLines.{Begins, IsExact, TakesLines, TextSays}
@@ -96,9 +96,9 @@ module _ (known : Known) (h : Listed) (first now : HintChecker) (held : holds fi
         held = k.0;
         accepts = accepts h k.0 t.0 k.1 cut.front cut.is;
       }
-  text_refused (Proof (reads.Line n kind)) t =
+  text_refused (Proof (reads.Wrong at kind)) t =
       let k = t.1.leads h held in
-      unread_line forms.Text known k.0 t.0 (Refuses h) (λ text later e m exact. refuses h k.0 t.0 k.1 text later e m exact) n t.3.1 kind t.3.0
+      unread_line forms.Text known k.0 t.0 (Refuses h) (λ text later e m exact. refuses h k.0 t.0 k.1 text later e m exact) at.0 t.3.1 kind t.3.0
   text_refused (Proof reads.OutOfMemory) t = (t.3.1.text, t.3.1.gives, tt)
   text_refused (Sink n fault) t =
       let k = t.2 h held in

@@ -9,8 +9,8 @@ use Rattle.std.specs.Prelude.{◌≡◌, ℕ, List, [], ◌∷◌, Option, Some,
 use Rattle.sat_rules.specs.HintLines.{HintLine, Listed, deletes_clauses}
 use Rattle.lrat_rules.specs.Lines.{Hint, Line, adds, against, along, deletes}
 use Rattle.lrat_text.specs.Texts.{Ended, Ending, Faulty}
-use Rattle.lrat_text.specs.declared.fault.LratTextFault.{LratTextFault}
-use Rattle.lrat_text.specs.declared.fault.LratTextFault.TheVariants as reads
+use Rattle.sat_formula.specs.declared.read_fault.ReadFault.TheVariants as reads
+use Rattle.lrat_text.specs.Faults.{LratTextFault}
 use Rattle.lrat_binary.specs.declared.sink.UntakenLine.{UntakenLine}
 use Rattle.lrat_binary.specs.declared.sink.UntakenLine.TheVariants.{Proof, Sink}
 use Rattle.hint_rules.specs.Accepted.{joined}
@@ -49,7 +49,7 @@ Stops k (x ∷ xs) ending n fault = (n ≡ x.0) × (refusal k (as_hints x.1) ≡
 -- the fault of a text that can't be read: whatever is wrong with a line, it is malformed
 abbrev pub of_text : LratTextFault → HintTextFault
 of_text (reads.Read cause) = Read cause
-of_text (reads.Line n kind) = Refused (faults.Malformed n)
+of_text (reads.Wrong at kind) = Refused (faults.Malformed at.0)
 of_text reads.OutOfMemory = Refused faults.OutOfMemory
 
 -- the fault of a text of which a line was not taken

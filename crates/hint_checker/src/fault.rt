@@ -50,8 +50,8 @@ impl From<LratTextFault> for HintTextFault {
     fn from(fault: LratTextFault) -> HintTextFault {
         match fault {
             LratTextFault::Read(cause) => HintTextFault::Read(cause),
-            LratTextFault::Line { line, .. } => {
-                HintTextFault::Refused(HintFault::Malformed { line })
+            LratTextFault::Wrong { at, .. } => {
+                HintTextFault::Refused(HintFault::Malformed { line: at.0 })
             }
             LratTextFault::OutOfMemory => HintTextFault::Refused(HintFault::OutOfMemory),
         }

@@ -12,8 +12,8 @@ use Rattle.lrat_rules.specs.Lines.{Line}
 use Rattle.lrat_text.specs.NextLine as texts
 use Rattle.lrat_text.specs.NextLine.{view}
 use Rattle.lrat_text.specs.Texts.{Ended, Ending, Faulty, Outcome, outcome_after, with_line, with_lines}
-use Rattle.lrat_text.specs.declared.fault.LratTextFault.{LratTextFault}
-use Rattle.lrat_text.specs.declared.fault.LratTextFault.TheVariants as reads
+use Rattle.sat_formula.specs.declared.read_fault.ReadFault.TheVariants as reads
+use Rattle.lrat_text.specs.Faults.{LratTextFault}
 use Rattle.lrat_text.specs.declared.line.LratLine.{LratLine}
 use Rattle.lrat_text.proofs.LineLemmas.{with_lines-more}
 use Rattle.lrat_binary.specs.Lines.{outcome_at}
@@ -169,11 +169,11 @@ module _ {R : Type 0} (remaining : R → Option (List ℕ)) (known : Known) (for
                 (cut_off remaining known lines old new cause gives
                 (subst (λ (i : LratForm). Goes i known (bytes_left remaining old) 0 false (λ more. with_lines lines (lines_after i (line_number old) more))) (sym so.same) goes)),
           )
-      given_fault (reads.Line n kind) gives =
-          let on = open_still remaining old new (Err (reads.Line n kind)) (λ e. absurd cc) gives in
-          let goes = gave_fault remaining old new n kind on gives in (
-            given_ending goes.0 (Faulty n kind) (given_open new (Err (reads.Line n kind)) (λ e. absurd cc) gives) (rw so.same at goes.1),
-            subst (λ (i : LratForm). IsExact i n) so.same (fault_exact remaining old new n kind gives so.counted),
+      given_fault (reads.Wrong at kind) gives =
+          let on = open_still remaining old new (Err (reads.Wrong at kind)) (λ e. absurd cc) gives in
+          let goes = gave_fault remaining old new at kind on gives in (
+            given_ending goes.0 (Faulty at.0 kind) (given_open new (Err (reads.Wrong at kind)) (λ e. absurd cc) gives) (rw so.same at goes.1),
+            subst (λ (i : LratForm). IsExact i at.0) so.same (fault_exact remaining old new at kind gives so.counted),
           )
       given_fault reads.OutOfMemory gives = given_begun
 
@@ -228,7 +228,7 @@ module _ {S E : Type 0} (ids : Option Ids) (n : ℕ) (known : Known) (is_done : 
   none_taken done = let told = told_form ids n known in (told.0, told.1, ([], took, rw done (begins_none told.0 known)))
 
   pub not_opened : is_done now ≡ false → (fault : LratTextFault) → IsNoLine fault → (form : LratForm) × IsToldForm ids n known form × TakesLines form known is_done taken refused now (Err (Proof fault))
-  not_opened wanted (reads.Line m kind) none = absurd none
+  not_opened wanted (reads.Wrong at kind) none = absurd none
   not_opened wanted (reads.Read cause) none = let told = told_form ids n known in (told.0, told.1, ([], took, wanted, (begins_none told.0 known, cut_first told.0 known)))
   not_opened wanted reads.OutOfMemory none = let told = told_form ids n known in (told.0, told.1, ([], took, wanted, begins_none told.0 known))
 

@@ -8,8 +8,9 @@ use Rattle.lrat_text.specs.NextLine.{view}
 use Rattle.lrat_text.specs.NextLine as texts
 use Rattle.lrat_text.specs.Texts.{Ended, Faulty, Outcome, with_line}
 use Rattle.lrat_text.specs.declared.fault.LineKind.{LineKind}
-use Rattle.lrat_text.specs.declared.fault.LratTextFault.{LratTextFault}
-use Rattle.lrat_text.specs.declared.fault.LratTextFault.TheVariants as reads
+use Rattle.sat_formula.specs.declared.read_fault.LineNumber.{LineNumber}
+use Rattle.sat_formula.specs.declared.read_fault.ReadFault.TheVariants as reads
+use Rattle.lrat_text.specs.Faults.{LratTextFault}
 use Rattle.lrat_text.specs.declared.line.LratLine.{LratLine}
 use Rattle.lrat_binary.specs.NextLine as binaries
 use Rattle.lrat_binary.specs.Lines.{binary_after}
@@ -58,13 +59,13 @@ module _ {R : Type 0} (remaining : R → Option (List ℕ)) where
   fails_so ids before a b n kind (by_end p) = (true, p)
 
   -- a fault of a line
-  pub gave_fault : (old new : LratReader R) (n : ℕ) (kind : LineKind) → has_ended old ≡ false → Gives remaining old new (Err (reads.Line n kind)) →
-      (over : Bool) × Goes (form_now old) (bytes_left remaining old) (bytes_left remaining new) (line_number old) over (λ more. ([], Faulty n kind))
-  gave_fault (Text old) (Text new) n kind on gives =
+  pub gave_fault : (old new : LratReader R) (at : LineNumber) (kind : LineKind) → has_ended old ≡ false → Gives remaining old new (Err (reads.Wrong at kind)) →
+      (over : Bool) × Goes (form_now old) (bytes_left remaining old) (bytes_left remaining new) (line_number old) over (λ more. ([], Faulty at.0 kind))
+  gave_fault (Text old) (Text new) at kind on gives =
       let a = gives.reads on in
       rw a.0 (a.1.0, a.1.1)
-  gave_fault (Binary old) (Binary new) n kind on gives = fails_so old.ids old.number _ _ n kind (gives.reads on).0
-  gave_fault old new n kind on gives = absurd gives
+  gave_fault (Binary old) (Binary new) at kind on gives = fails_so old.ids old.number _ _ at.0 kind (gives.reads on).0
+  gave_fault old new at kind on gives = absurd gives
 
   -- the bytes that were taken bound the number of a line
   pub still_counted : (old new : LratReader R) (line : LratLine) → Gives remaining old new (Ok (Some line)) → IsCounted old → IsCounted new
@@ -80,11 +81,11 @@ module _ {R : Type 0} (remaining : R → Option (List ℕ)) where
   line_exact (Text old) (Binary new) line gives few = absurd gives
   line_exact (Binary old) new line gives few = tt
 
-  pub fault_exact : (old new : LratReader R) (n : ℕ) (kind : LineKind) → Gives remaining old new (Err (reads.Line n kind)) → IsCounted old → IsExact (form_now old) n
-  fault_exact (Text old) (Text new) n kind gives few =
-      let on = open_still (Text old) (Text new) (Err (reads.Line n kind)) (λ e. absurd cc) gives in
+  pub fault_exact : (old new : LratReader R) (at : LineNumber) (kind : LineKind) → Gives remaining old new (Err (reads.Wrong at kind)) → IsCounted old → IsExact (form_now old) at.0
+  fault_exact (Text old) (Text new) at kind gives few =
+      let on = open_still (Text old) (Text new) (Err (reads.Wrong at kind)) (λ e. absurd cc) gives in
       let more = gives.counts on in
       let number = (gives.reads on).0 in
       omega arith
-  fault_exact (Text old) (Binary new) n kind gives few = absurd gives
-  fault_exact (Binary old) new n kind gives few = tt
+  fault_exact (Text old) (Binary new) at kind gives few = absurd gives
+  fault_exact (Binary old) new at kind gives few = tt

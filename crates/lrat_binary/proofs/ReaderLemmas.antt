@@ -10,8 +10,8 @@ use Rattle.drat_text.specs.declared.fault.DratKind.{DratKind}
 use Rattle.sat_formula.specs.declared.stop.Stop.{Stop}
 use Rattle.sat_formula.specs.declared.stop.Stop.TheVariants as stops
 use Rattle.lrat_text.specs.Texts.{Outcome}
-use Rattle.lrat_text.specs.declared.fault.LratTextFault.{LratTextFault}
-use Rattle.lrat_text.specs.declared.fault.LratTextFault.TheVariants as faults
+use Rattle.sat_formula.specs.declared.read_fault.ReadFault.TheVariants as faults
+use Rattle.lrat_text.specs.Faults.{LratTextFault}
 use Rattle.lrat_binary.specs.declared.ids.Ids.{Ids}
 use Rattle.lrat_binary.specs.declared.reader.BinaryReader.{BinaryReader}
 use Rattle.lrat_binary.specs.NextLine.{Answers, Explains, Numbers, bytes_left, has_ended, ids_of, line_number, rest_of, room_left}

@@ -14,8 +14,8 @@ use Rattle.sat_formula.specs.declared.stop.Stop.{Stop}
 use Rattle.sat_formula.specs.declared.stop.Stop.TheVariants as stops
 use Rattle.lrat_text.specs.NextLine.{view}
 use Rattle.lrat_text.specs.Texts.{Ended, Faulty, Outcome, with_line}
-use Rattle.lrat_text.specs.declared.fault.LratTextFault.{LratTextFault}
-use Rattle.lrat_text.specs.declared.fault.LratTextFault.TheVariants as faults
+use Rattle.sat_formula.specs.declared.read_fault.ReadFault.TheVariants as faults
+use Rattle.lrat_text.specs.Faults.{LratTextFault, line_fault}
 use Rattle.lrat_text.specs.declared.line.LratLine.{LratLine}
 use Rattle.lrat_binary.specs.declared.ids.Ids.{Ids}
 use Rattle.lrat_binary.specs.declared.reader.BinaryReader.{BinaryReader}
@@ -69,10 +69,10 @@ Answers remaining seen old new (Err (faults.Read e)) =
     Breaks (outcome_at (ids_of old) (line_number old)) (bytes_left remaining old)
     (bytes_left remaining new) (rest_of old)
     × IsReadError new e × (has_ended new ≡ true)
-Answers remaining seen old new (Err (faults.Line number kind)) =
+Answers remaining seen old new (Err (faults.Wrong at kind)) =
     Fails (bytes_left remaining old) (bytes_left remaining new) (rest_of old)
-    ([], Faulty number kind)
-    × (number ≡ line_number new) × (has_ended new ≡ true)
+    ([], Faulty at.0 kind)
+    × (at.0 ≡ line_number new) × (has_ended new ≡ true)
 Answers remaining seen old new (Err faults.OutOfMemory) = has_ended new ≡ true
 
 -- the number of the line of which a call speaks
@@ -81,7 +81,7 @@ abbrev pub Numbers : {R X : Type 0} → BinaryReader R → BinaryReader R →
 Numbers old new (Ok (Some x)) = line_number new ≡ next_line (line_number old)
 Numbers old new (Ok None) = line_number new ≡ line_number old
 Numbers old new (Err (faults.Read e)) = line_number new ≡ line_number old
-Numbers old new (Err (faults.Line number kind)) = line_number new ≡ next_line (line_number old)
+Numbers old new (Err (faults.Wrong at kind)) = line_number new ≡ next_line (line_number old)
 Numbers old new (Err faults.OutOfMemory) = line_number new ≡ line_number old
 
 -- the call gave the next line, the end or the fault of the proof; after the end or a fault it gives none and stays as it is
@@ -98,7 +98,7 @@ abbrev pub Explains : {R X : Type 0} → Source R → ℕ → Stop DratKind → 
 Explains source before stops.End r = r ≡ Ok None
 Explains source before stops.Read (Ok x) = ⊥
 Explains source before stops.Read (Err (faults.Read e)) = IsErrorOf source e
-Explains source before stops.Read (Err (faults.Line number kind)) = ⊥
+Explains source before stops.Read (Err (faults.Wrong at kind)) = ⊥
 Explains source before stops.Read (Err faults.OutOfMemory) = ⊥
-Explains source before (stops.Wrong kind) r = r ≡ Err (faults.Line (next_line before) (line_kind kind))
+Explains source before (stops.Wrong kind) r = r ≡ Err (line_fault (next_line before) (line_kind kind))
 Explains source before stops.OutOfMemory r = r ≡ Err faults.OutOfMemory

@@ -8,8 +8,8 @@ use Rattle.std.specs.Io.KnownBytes.{Keeps}
 use Rattle.lrat_rules.specs.Lines.{Line}
 use Rattle.lrat_text.specs.NextLine as texts
 use Rattle.lrat_text.specs.Texts.{Ending, Outcome, outcome_after, with_lines}
-use Rattle.lrat_text.specs.declared.fault.LratTextFault.{LratTextFault}
-use Rattle.lrat_text.specs.declared.fault.LratTextFault.TheVariants as faults
+use Rattle.sat_formula.specs.declared.read_fault.ReadFault.TheVariants as faults
+use Rattle.lrat_text.specs.Faults.{LratTextFault}
 use Rattle.lrat_text.specs.declared.line.LratLine.{LratLine}
 use Rattle.lrat_binary.specs.declared.ids.LratForm.{LratForm}
 use Rattle.lrat_binary.specs.declared.ids.LratForm.TheVariants as forms
@@ -79,7 +79,7 @@ pub record IsFresh {R : Type 0} (remaining : R → Option (List ℕ)) (known : O
 -- no fault of a line
 abbrev pub IsNoLine : LratTextFault → Type 0
 IsNoLine (faults.Read e) = Unit {0}
-IsNoLine (faults.Line number kind) = ⊥
+IsNoLine (faults.Wrong at kind) = ⊥
 IsNoLine faults.OutOfMemory = Unit {0}
 
 -- a call's answer is that of the reader of its form

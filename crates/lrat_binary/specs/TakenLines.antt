@@ -12,8 +12,8 @@ use Rattle.lrat_rules.specs.Lines.{Line}
 use Rattle.lrat_text.specs.Bytes.{IsOpen}
 use Rattle.lrat_text.specs.Texts.{Ended, Faulty, Outcome, with_lines}
 use Rattle.lrat_text.specs.Texts as texts
-use Rattle.lrat_text.specs.declared.fault.LratTextFault.{LratTextFault}
-use Rattle.lrat_text.specs.declared.fault.LratTextFault.TheVariants as faults
+use Rattle.sat_formula.specs.declared.read_fault.ReadFault.TheVariants as faults
+use Rattle.lrat_text.specs.Faults.{LratTextFault}
 use Rattle.lrat_binary.specs.Proofs.{outcome_in}
 use Rattle.lrat_binary.specs.Telling.{form_of}
 use Rattle.lrat_binary.specs.declared.ids.Ids.{Ids}
@@ -58,8 +58,8 @@ IsCut (Binary ids) known ls = Unit {0}
 -- the next line has this fault; a read that fails and running out of memory can come anywhere
 abbrev pub FailsAfter : LratForm → Option (List ℕ) → List (ℕ × Line) → LratTextFault → Type 0
 FailsAfter form known ls (faults.Read cause) = Begins form known ls × IsCut form known ls
-FailsAfter form known ls (faults.Line number kind) =
-    TextSays (outcome_in form) known (ls, Faulty number kind) × IsExact form number
+FailsAfter form known ls (faults.Wrong at kind) =
+    TextSays (outcome_in form) known (ls, Faulty at.0 kind) × IsExact form at.0
 FailsAfter form known ls faults.OutOfMemory = Begins form known ls
 
 -- lines were taken, and what takes them stands as now: all up to the last that is needed, all of the proof, all before its fault, or all before one that was not taken

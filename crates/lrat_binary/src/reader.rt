@@ -11,6 +11,7 @@ use drat_text::DratKind;
 use drat_text::bytes::Bytes;
 use lrat_text::row::Head;
 use lrat_text::{LratLine, LratTextFault};
+use sat_formula::read_fault::LineNumber;
 use sat_formula::stop::Stop;
 use std::alloc::Global;
 use std::io::Read;
@@ -131,8 +132,8 @@ impl<R: Read> BinaryReader<R> {
             Stop::Read => Err(LratTextFault::Read(self.bytes.error())),
             Stop::Wrong(kind) => {
                 self.number = self.number.saturating_add(1);
-                Err(LratTextFault::Line {
-                    line: self.number,
+                Err(LratTextFault::Wrong {
+                    at: LineNumber(self.number),
                     kind: line_kind(kind),
                 })
             }

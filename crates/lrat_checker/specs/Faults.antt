@@ -9,8 +9,8 @@ use Rattle.lrat_checker.specs.declared.fault.LratFault.{LratFault}
 use Rattle.lrat_checker.specs.declared.fault.LratFault.TheVariants as texts
 use Rattle.lrat_checker.specs.declared.fault.Stop.{Stop}
 use Rattle.lrat_checker.specs.declared.fault.Stop.TheVariants.{OutOfMemory, Refused}
-use Rattle.lrat_text.specs.declared.fault.LratTextFault.{LratTextFault}
-use Rattle.lrat_text.specs.declared.fault.LratTextFault.TheVariants as reads
+use Rattle.sat_formula.specs.declared.read_fault.ReadFault.TheVariants as reads
+use Rattle.lrat_text.specs.Faults.{LratTextFault}
 
 -- the fault of a line whose check stops
 abbrev pub fault_of : Stop → LineFault
@@ -26,5 +26,5 @@ in_line faults.Failed n = texts.Failed
 -- the fault of a text that can't be read
 abbrev pub of_text : LratTextFault → LratFault
 of_text (reads.Read cause) = texts.Read cause
-of_text (reads.Line n kind) = texts.Unread n kind
+of_text (reads.Wrong at kind) = texts.Unread at.0 kind
 of_text reads.OutOfMemory = texts.OutOfMemory

@@ -111,7 +111,7 @@ impl From<LratTextFault> for LratFault {
     fn from(fault: LratTextFault) -> LratFault {
         match fault {
             LratTextFault::Read(cause) => LratFault::Read(cause),
-            LratTextFault::Line { line, kind } => LratFault::Unread { line, kind },
+            LratTextFault::Wrong { at, kind } => LratFault::Unread { line: at.0, kind },
             LratTextFault::OutOfMemory => LratFault::OutOfMemory,
         }
     }

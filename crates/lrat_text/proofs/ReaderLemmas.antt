@@ -10,8 +10,8 @@ use Rattle.sat_formula.proofs.Readings.{continues_on}
 use Rattle.lrat_rules.specs.Lines.{Line}
 use Rattle.lrat_text.specs.declared.fault.LineKind.{LineKind}
 use Rattle.lrat_text.specs.declared.fault.LineKind.TheVariants.{Malformed, Unfinished}
-use Rattle.lrat_text.specs.declared.fault.LratTextFault.{LratTextFault}
-use Rattle.lrat_text.specs.declared.fault.LratTextFault.TheVariants as faults
+use Rattle.sat_formula.specs.declared.read_fault.ReadFault.TheVariants as faults
+use Rattle.lrat_text.specs.Faults.{LratTextFault}
 use Rattle.sat_formula.specs.declared.stop.Stop.{Stop}
 use Rattle.sat_formula.specs.declared.stop.Stop.TheVariants as stops
 use Rattle.lrat_text.specs.declared.line.LratLine.{LratLine}

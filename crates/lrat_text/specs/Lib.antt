@@ -7,5 +7,6 @@ pub mod Bytes
 pub mod Holding
 pub mod Texts
 pub mod Taking
+pub mod Faults
 pub mod NextLine
 pub mod Rows

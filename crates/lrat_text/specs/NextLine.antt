@@ -10,8 +10,8 @@ use Rattle.sat_formula.specs.Source.{IsErrorOf, IsStopped}
 use Rattle.lrat_rules.specs.Lines.{Line, adds, deletes}
 use Rattle.lrat_text.specs.declared.fault.LineKind.{LineKind}
 use Rattle.lrat_text.specs.declared.fault.LineKind.TheVariants.{Unfinished}
-use Rattle.lrat_text.specs.declared.fault.LratTextFault.{LratTextFault}
-use Rattle.lrat_text.specs.declared.fault.LratTextFault.TheVariants as faults
+use Rattle.sat_formula.specs.declared.read_fault.ReadFault.TheVariants as faults
+use Rattle.lrat_text.specs.Faults.{LratTextFault, line_fault}
 use Rattle.sat_formula.specs.declared.stop.Stop.{Stop}
 use Rattle.sat_formula.specs.declared.stop.Stop.TheVariants as stops
 use Rattle.lrat_text.specs.declared.line.LratLine.{LratLine}
@@ -81,8 +81,8 @@ Answers remaining seen old new (Ok None) = Reads remaining old new true (λ more
 Answers remaining seen old new (Err (faults.Read e)) =
     Breaks (bytes_left remaining old) (bytes_left remaining new) (line_number old) (line_number new)
     × IsReadError new e × (has_ended new ≡ true)
-Answers remaining seen old new (Err (faults.Line number kind)) =
-    (number ≡ line_number new) × ReadsFault remaining old new kind × (has_ended new ≡ true)
+Answers remaining seen old new (Err (faults.Wrong at kind)) =
+    (at.0 ≡ line_number new) × ReadsFault remaining old new kind × (has_ended new ≡ true)
 Answers remaining seen old new (Err faults.OutOfMemory) = has_ended new ≡ true
 
 -- the line's number rises by no more than bytes were taken, since each line takes one at least
@@ -95,7 +95,7 @@ abbrev pub Counts : {R X : Type 0} → LineReader R → LineReader R →
 Counts old new (Ok (Some x)) = CountsBytes old new
 Counts old new (Ok None) = Unit {0}
 Counts old new (Err (faults.Read e)) = Unit {0}
-Counts old new (Err (faults.Line number kind)) = CountsBytes old new
+Counts old new (Err (faults.Wrong at kind)) = CountsBytes old new
 Counts old new (Err faults.OutOfMemory) = Unit {0}
 
 -- and for a line that says nothing, unless it is the last, which may have no byte
@@ -130,9 +130,9 @@ JudgesLine remaining old new (Err stops.OutOfMemory) = Unit {0}
 
 -- the fault of a stop, with this source, on this line; where the text ends there, the line is unfinished
 abbrev pub Explains : {R : Type 0} → Source R → ℕ → Stop LineKind → LratTextFault → Type 0
-Explains source line stops.End fault = fault ≡ faults.Line line Unfinished
+Explains source line stops.End fault = fault ≡ line_fault line Unfinished
 Explains source line stops.Read (faults.Read e) = IsErrorOf source e
-Explains source line stops.Read (faults.Line number kind) = ⊥
+Explains source line stops.Read (faults.Wrong at kind) = ⊥
 Explains source line stops.Read faults.OutOfMemory = ⊥
-Explains source line (stops.Wrong kind) fault = fault ≡ faults.Line line kind
+Explains source line (stops.Wrong kind) fault = fault ≡ line_fault line kind
 Explains source line stops.OutOfMemory fault = fault ≡ faults.OutOfMemory

@@ -2,8 +2,8 @@
 ghost use Rattle.std.specs.Prelude.{◌≡◌};
 ghost use Rattle.sat_formula.specs.declared.stop.Stop.TheVariants as stops;
 
+use sat_formula::read_fault::{FaultKind, LineNumber, ReadFault};
 use sat_formula::stop::Stop;
-use std::io;
 use thiserror::Error;
 
 /// What is wrong with a line.
@@ -21,19 +21,12 @@ pub enum LineKind {
     Unfinished,
 }
 
-/// Why a reader of lines gave up.
-#[derive(Debug, Drop, Error)]
-pub enum LratTextFault {
-    /// A read failed, or the text is longer than any that is read.
-    #[error("error reading proof: {0}")]
-    Read(io::Error),
-    /// The first fault of the text, and its line; lines count from 1.
-    #[error("line {line}: {kind}")]
-    Line { line: u64, kind: LineKind },
-    /// There was no memory for a line or for the bytes read ahead.
-    #[error("out of memory")]
-    OutOfMemory,
+impl FaultKind for LineKind {
+    const TEXT: &'static str = "proof";
 }
+
+/// Why a reader of lines gave up.
+pub type LratTextFault = ReadFault<LineNumber, LineKind>;
 
 impl From<LineKind> for Stop<LineKind> {
     ghost from_gives = { λ kind stop. stop ≡ stops.Wrong kind };

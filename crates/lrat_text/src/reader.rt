@@ -7,6 +7,7 @@ use crate::fault::{LineKind, LratTextFault};
 use crate::line::LratLine;
 use crate::lines::Lines;
 use crate::row::{Head, Row};
+use sat_formula::read_fault::LineNumber;
 use sat_formula::stop::Stop;
 use std::alloc::Global;
 use std::io::Read;
@@ -31,6 +32,7 @@ pub struct LineReader<R> {
 impl<R: Read> LineReader<R> {
     ghost use Rattle.sat_formula.specs.Outcome.{next_line};
     ghost use Rattle.sat_formula.specs.Source.{IsStopped};
+    ghost use Rattle.lrat_text.specs.Faults.{line_fault};
     ghost use Rattle.lrat_text.specs.NextLine.{bytes_left, room_left, has_ended, line_number, work_left, view, Gives, Answers, Counts, CountsLine, JudgesLine, Explains};
     ghost use Rattle.lrat_text.specs.Reading.{line_of};
     ghost use Rattle.lrat_text.specs.contracts.reader.LineReader.{the_row};
@@ -63,7 +65,7 @@ impl<R: Read> LineReader<R> {
     ///
     /// # Errors
     ///
-    /// `Line` for a line that is malformed, `Read` if a read failed, which is not retried, or
+    /// `Wrong` for a line that is malformed, `Read` if a read failed, which is not retried, or
     /// `OutOfMemory`. A line that was cut by a failed read is not judged. After the end or an error
     /// every call returns `Ok(None)` and reads nothing more.
     pub fn next_line(&mut self) -> Result<Option<LratLine<'_>>, LratTextFault>
@@ -156,10 +158,10 @@ impl<R: Read> LineReader<R> {
     }
 
     fn faulty(&self, kind: LineKind) -> LratTextFault
-        ensures { result ≡ LratTextFault.Line self.now.number kind }
+        ensures { result ≡ line_fault self.now.number kind }
     {
-        LratTextFault::Line {
-            line: self.number,
+        LratTextFault::Wrong {
+            at: LineNumber(self.number),
             kind,
         }
     }

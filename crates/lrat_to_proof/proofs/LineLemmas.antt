@@ -8,8 +8,8 @@ use Rattle.std.specs.Prelude.{IfErr, IfSome, OnOk}
 use Rattle.sat_formula.specs.TakenClauses.{Takes}
 use Rattle.lrat_rules.specs.Lines.{Line}
 use Rattle.lrat_text.specs.Texts.{Ended, Ending, Faulty, Outcome, with_lines}
-use Rattle.lrat_text.specs.declared.fault.LratTextFault.{LratTextFault}
-use Rattle.lrat_text.specs.declared.fault.LratTextFault.TheVariants as reads
+use Rattle.sat_formula.specs.declared.read_fault.ReadFault.TheVariants as reads
+use Rattle.lrat_text.specs.Faults.{LratTextFault}
 use Rattle.lrat_binary.specs.Proofs.{BeginsWith, SaysAll, outcome_in}
 use Rattle.lrat_binary.specs.TakenLines.{Begins, FailsAfter, IsToldForm, TextSays, said}
 use Rattle.lrat_binary.specs.declared.ids.Ids.{Ids}
@@ -124,10 +124,10 @@ module _ (ids : Option Ids) (n : ℕ) (known : Known) (form : LratForm) (told : 
   pub unread : (x : Converter) → (d : Converted) × (run width c (said lines) ≡ Ok d) × HasConverted width start now d x → (holding_of x.held).refuted ≡ false →
       (fault : LratTextFault) → FailsAfter form known lines fault → IsStopped (proof_says ids n) known width c start now (of_text fault)
   unread x took wanted (reads.Read cause) f = record { lines = lines; after = took.0; text = begins_so lines f.0; ran = took.1; written = took.2.written.bytes }
-  unread x took wanted (reads.Line m kind) f = record {
+  unread x took wanted (reads.Wrong at kind) f = record {
     lines = lines;
     before = took.0;
-    text = says_so (lines, Faulty m kind) f.0;
+    text = says_so (lines, Faulty at.0 kind) f.0;
     ran = took.1;
     is_open = done-is width start now took.0 x false took.2 wanted;
     written = took.2.written.bytes;

@@ -1,7 +1,7 @@
 -- Faults, by what they come of.
 use Rattle.std.specs.Prelude.{◌≡◌, ℕ, Result, Err}
-use Rattle.lrat_text.specs.declared.fault.LratTextFault.{LratTextFault}
-use Rattle.lrat_text.specs.declared.fault.LratTextFault.TheVariants as texts
+use Rattle.sat_formula.specs.declared.read_fault.ReadFault.TheVariants as texts
+use Rattle.lrat_text.specs.Faults.{LratTextFault}
 use Rattle.lrat_to_proof.specs.declared.fault.ConvertFault.{ConvertFault}
 use Rattle.lrat_to_proof.specs.declared.fault.ConvertFault.TheVariants.{OutOfMemory, Read, Refused, Unread, Write}
 use Rattle.lrat_to_proof.specs.declared.fault.GivenUp.{GivenUp}
@@ -23,7 +23,7 @@ in_line (stops.GivenUp why) line = giving_up why
 -- where the text gives no line
 abbrev pub of_text : LratTextFault → ConvertFault
 of_text (texts.Read cause) = Read cause
-of_text (texts.Line line kind) = Unread line kind
+of_text (texts.Wrong at kind) = Unread at.0 kind
 of_text texts.OutOfMemory = OutOfMemory
 
 -- the rules reject it for this cause, unless nothing more can be written

@@ -92,7 +92,7 @@ impl ConvertFault {
     {
         match fault {
             LratTextFault::Read(cause) => ConvertFault::Read(cause),
-            LratTextFault::Line { line, kind } => ConvertFault::Unread { line, kind },
+            LratTextFault::Wrong { at, kind } => ConvertFault::Unread { line: at.0, kind },
             LratTextFault::OutOfMemory => ConvertFault::OutOfMemory,
         }
     }
