@@ -1,3 +1,3 @@
-pub mod SessionAsBox
-pub mod CheckerAsBox
+pub mod AsBox
 pub mod CheckerCallLemmas
+pub mod Walks

@@ -1,11 +1,10 @@
 pub mod Numbers
+pub mod Places
 pub mod SessionAnswers
 pub mod SessionCauses
 pub mod SessionHeld
-pub mod SessionPlaces
 pub mod CheckerAnswers
 pub mod CheckerCalls
 pub mod CheckerHeld
-pub mod CheckerPlaces
 pub mod CheckerStates
 pub mod CheckerSteps

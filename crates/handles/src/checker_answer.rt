@@ -3,19 +3,8 @@ ghost use Rattle.std.specs.Prelude.{◌≡◌};
 ghost use Rattle.handles.specs.CheckerAnswers.{cause_of, number_of, rejected_step, status_of};
 
 use crate::checker_fault::CallFault;
+use crate::status::{ACCEPTED, NOT_RUN, OUT_OF_MEMORY, REJECTED};
 use checker_parts::error::CheckCause;
-
-/// The status of an accepted call.
-const ACCEPTED: u8 = 0;
-
-/// The call is none: nothing was looked at.
-const NOT_RUN: u8 = 2;
-
-/// The checker rejects the call.
-const REJECTED: u8 = 3;
-
-/// There was no memory.
-const OUT_OF_MEMORY: u8 = 4;
 
 /// The cause of a checker that has failed.
 const FAILED: u8 = 34;

@@ -1,14 +1,14 @@
 //! A place for a checker.
 ghost use Rattle.std.specs.Prelude.{◌≡◌, true, None, Some, Option, is_some};
 ghost use Rattle.handles.specs.declared.checker_ported.Ported.{Ported};
-ghost use Rattle.handles.specs.CheckerPlaces.{place_code};
+ghost use Rattle.handles.specs.contracts.checker_ported.Ported.{the_row as checker_row};
+ghost use Rattle.std.specs.Coded.{coded_option};
+ghost use Rattle.handles.specs.Places.{holds};
 
 use crate::checker_ported::Ported;
 use crate::parts::Parts;
 use std::alloc::{Allocator, Global};
 use std::marker::Model;
-use std::mem::replace;
-use std::ptr::null_mut;
 
 /// A place for a checker, which is there or not. Where it is, `at` points to its block; a slot that
 /// is dropped does not free it.
@@ -17,47 +17,26 @@ use std::ptr::null_mut;
 pub struct Slot {
     at: *mut u8,
     alloc: Global,
-    pub ghost state: { Option Ported } by { place_code },
+    pub ghost state: { Option Ported } by { coded_option checker_row.coded },
 }
 
 impl Model for Slot {
-    ghost use Rattle.handles.specs.CheckerPlaces.{holds};
-
-    ghost also_owns = { λ s. holds (⟦<Global as Allocator>⟧.dealloc_token s.alloc) s.at s.state };
+    ghost also_owns = { λ s. holds (⟦<Global as Allocator>⟧.dealloc_token s.alloc) checker_row s.at s.state };
 }
 
 impl Slot {
-    /// Returns a slot without a checker.
-    fn empty(alloc: Global) -> Slot
-        ensures { result.state ≡ None }
+    /// Puts the parts into the slot, and returns those that it had.
+    fn exchange(&mut self, parts: Parts<Ported, Global>) -> Parts<Ported, Global>
+        ensures { (self.new.state ≡ parts.state) × (result.state ≡ self.old.state) }
     {
-        Slot {
-            at: null_mut(),
-            alloc,
-        }
-    }
-
-    /// Returns a slot with the checker of these parts.
-    fn of_parts(parts: Parts<Ported, Global>) -> Slot
-        ensures { result.state ≡ Some parts.value }
-    {
+        // (the slot keeps its allocator, since all values of `Global` are equal)
         let Parts { ptr, alloc } = parts;
-        Slot {
-            at: ptr as *mut u8,
+        let old = Parts {
+            ptr: self.at as *mut Ported,
             alloc,
-        }
-    }
-
-    /// Returns the parts of the checker.
-    fn into_parts(self) -> Parts<Ported, Global>
-        requires { is_some self.state ≡ true }
-        ensures { self.state ≡ Some result.value }
-    {
-        let Slot { at, alloc } = self;
-        Parts {
-            ptr: at as *mut Ported,
-            alloc,
-        }
+        };
+        self.at = ptr as *mut u8;
+        old
     }
 
     /// Takes the checker out of the slot.
@@ -66,7 +45,7 @@ impl Slot {
         ensures taken { self.old.state ≡ Some result.value }
         ensures left { self.new.state ≡ None }
     {
-        replace(self, Slot::empty(alloc)).into_parts().into_box()
+        self.exchange(Parts::none(alloc)).into_box()
     }
 
     /// Puts a checker into the slot, which has none.
@@ -74,6 +53,6 @@ impl Slot {
         requires { self.old.state ≡ None }
         ensures { self.new.state ≡ Some checker.value }
     {
-        *self = Slot::of_parts(Parts::of(checker));
+        drop(self.exchange(Parts::of(checker)));
     }
 }

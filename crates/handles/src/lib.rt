@@ -16,6 +16,7 @@ mod session;
 mod session_answer;
 mod session_fault;
 mod session_slot;
+mod status;
 
 pub use checker::CheckerHandle;
 pub use checker_answer::CheckerAnswer;

@@ -3,19 +3,8 @@ ghost use Rattle.std.specs.Prelude.{◌≡◌};
 ghost use Rattle.handles.specs.SessionAnswers.{cause_of, clause_of, missed_by, number_of, status_of};
 
 use crate::session_fault::HandleFault;
+use crate::status::{ACCEPTED, NOT_RUN, OUT_OF_MEMORY, REJECTED};
 use session_checker::SessionCause;
-
-/// The status of an accepted call.
-const ACCEPTED: u8 = 0;
-
-/// The call is none: nothing was looked at.
-const NOT_RUN: u8 = 2;
-
-/// The checker rejects the call.
-const REJECTED: u8 = 3;
-
-/// There was no memory.
-const OUT_OF_MEMORY: u8 = 4;
 
 /// The outcome of a call.
 #[repr(C)]
