@@ -1,17 +1,12 @@
-use Rattle.std.proofs.Common.{◌≡◌, subst, Result, IfOk}
-use Rattle.std.specs.Io.KnownBytes.{Appends}
-use Rattle.hint_check.specs.declared.fault.RunFault.{RunFault}
+use Rattle.std.proofs.Common.{◌≡◌}
+use Rattle.verdicts.specs.Verdicts.{shows_unsat}
 use Rattle.verdicts.proofs.StatusLemmas.{status_zero}
 use Rattle.hint_check_main.proofs.files.check_files.Goals as goal
 use Rattle.verdicts.specs.Statuses.{status_of}
-use Rattle.verdicts.specs.Verdicts.{shown_line, shows_unsat}
-use Rattle.verdicts.specs.declared.verdict.Verdict.{Verdict}
 
 -- the line is that of the only verdict with this status
 pub returns-clause-line : goal.returns-clause-line
 returns-clause-line g c well =
     let status = c.exit_status.ensures in
     let zero : status_of shows_unsat c.run_check-outcome.result ≡ 0 = cc in
-    subst (λ (r : Result Verdict RunFault). IfOk r (λ verdict.
-    Appends (g.W.Write.contents c.args.out.now) (g.W.Write.contents c.run_check-outcome.new.out) (shown_line verdict)))
-    (status_zero c.run_check-outcome.result zero) c.run_check-outcome.ensures.line
+    rw (status_zero c.run_check-outcome.result zero) at c.run_check-outcome.ensures.line

@@ -1,8 +1,5 @@
-use Rattle.std.proofs.Common.{◌≡◌, subst, Result, IfOk}
-use Rattle.std.specs.Io.KnownBytes.{Appends}
-use Rattle.varisat_check.specs.Verdicts.{shown_line, shows_unsat}
-use Rattle.varisat_check.specs.declared.fault.RunFault.{RunFault}
-use Rattle.varisat_check.specs.declared.verdict.Verdict.{Verdict}
+use Rattle.std.proofs.Common.{◌≡◌}
+use Rattle.varisat_check.specs.Verdicts.{shows_unsat}
 use Rattle.varisat_check_main.proofs.StatusLemmas.{status_zero}
 use Rattle.varisat_check_main.proofs.files.check_files.Goals as goal
 use Rattle.verdicts.specs.Statuses.{status_of}
@@ -12,6 +9,4 @@ pub returns-clause-line : goal.returns-clause-line
 returns-clause-line g c well =
     let status = c.report.ensures in
     let zero : status_of shows_unsat c.run_check-outcome.result ≡ 0 = cc in
-    subst (λ (r : Result Verdict RunFault). IfOk r (λ verdict.
-    Appends (g.W.Write.contents c.args.out.now) (g.W.Write.contents c.run_check-outcome.new.out) (shown_line verdict)))
-    (status_zero c.run_check-outcome.result zero) c.run_check-outcome.ensures.line
+    rw (status_zero c.run_check-outcome.result zero) at c.run_check-outcome.ensures.line
