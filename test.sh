@@ -75,7 +75,8 @@ run() {
   SECONDS=0
   "tests/$1.sh" "${@:2}" > "$told/$1" 2>&1 || status=$?
   cat "$told/$1"
-  echo "tests/$1.sh ended with status $status after $SECONDS s"
+  times > "$told/$1.times"
+  echo "tests/$1.sh ended with status $status after $SECONDS s, $(awk -F '[ms ]+' 'NR == 2 { printf "%d", 60 * ($1 + $3) + $2 + $4 }' "$told/$1.times") of a processor"
   if [[ $status != 0 ]]; then
     echo "$1" >> "$told/failed"
   elif [[ $1 != library ]]; then

@@ -21,8 +21,9 @@ OPERATORS = set("<>=!+-*/%&|^.")
 
 
 def is_refused(wrong):
+    """Whether the check looked at it and did not prove it. A body that the check does not cover was not looked at."""
     said = wrong.said or ""
-    return bool(re.match("not proved|no proof", said)) and not re.search("it calls|it passes|a call of", said)
+    return bool(re.match("not proved|no proof", said)) and not re.search("it calls|it passes|a call of|does not cover", said)
 
 
 def is_refused_past_holes(wrong):
@@ -31,9 +32,9 @@ def is_refused_past_holes(wrong):
 
 
 def said_past_holes(wrong):
-    """What the check says of a copy among holes, without that it calls one: `proved` where nothing of its own is open or refused."""
+    """What the check says of a copy among holes, without that it calls one: `proved` where nothing else is said against it."""
     wrong.said = re.sub(r"(^|; )it calls .*?, which (is|are) not proved", "", wrong.said or "")
-    says_nothing = re.match("proved|no holes|depends on a hole|not proved|no proof", wrong.said)
+    says_nothing = re.match("proved|no holes|depends on a hole|not proved|no proof", wrong.said) and "does not cover" not in wrong.said
     return "proved" if says_nothing and not open_goals(wrong) and not wrong.faults else wrong.said
 
 
