@@ -1,6 +1,6 @@
 #!/usr/bin/env bash
 # What the documents say of files: links, names, counts of lines, quotations, laws, clauses of contracts, crates, calls;
-# that they have at most 30,000 words together (tests/documents/main.py says how these are counted); that the pictures are
+# that without FORMATS they have at most 24,500 words together (tests/documents/main.py says how these are counted); that the pictures are
 # those of `crates.txt` and of the table of times, and that the page of definitions, and the one for Coq, are those of the files of
 # definitions.
 set -euo pipefail

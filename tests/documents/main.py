@@ -38,7 +38,7 @@ DECLARED = re.compile(r"`([\w./-]+\.(?:antt|rt))`: (`\w+`(?:, `\w+`)*)")
 QUOTED = re.compile(r"^```\w+ (\S+/\S+)\n(.*?)^```$", re.MULTILINE | re.DOTALL)
 LAWS = re.compile(r"\b[Ll]aws? (`\w+`(?:(?:,| and) `\w+`)*)")
 CONTRACT = re.compile(r"((?:`[\w:]+`(?:, | and )?)+)(?: of [^:|;]*)?: ((?:`\w+`(?: \([^)]*\))?(?:, | and )?)+)")
-MOST_WORDS = 30_000
+MOST_WORDS = 24_500
 MOST_LINES = {"crates/command/src/host.rt": 60}
 CRATES_PAGE = "docs/reference/ARCHITECTURE.md"
 VERSION_PAGE = "crates/command/src/status.rt"
@@ -168,9 +168,10 @@ def prose(text):
 
 
 def bad_length(documents):
-    words = sum(len(list(prose(text_of(document)))) for document in documents)
+    """FORMATS does not count: there a format or a fault is looked up, and each new one has its row."""
+    words = sum(len(list(prose(text_of(it)))) for it in documents if not str(it).endswith("FORMATS.md"))
     if words > MOST_WORDS:
-        yield f"all documents have {words} words together, not at most {MOST_WORDS}"
+        yield f"all documents but FORMATS have {words} words together, not at most {MOST_WORDS}"
 
 
 def bad_bounds():
