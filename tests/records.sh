@@ -38,11 +38,31 @@ fn own() -> u64
 {
     7
 }
+
+/// A number that nobody calls.
+pub fn uncalled() -> u64
+    ensures { result ≡ nine }
+{
+    9
+}
 END
-echo 'pub seven : ℕ' > crates/low/specs/Numbers.antt
-echo 'pub fn two() -> u64 { 2 }' > crates/high/src/lib.rt
+printf 'use Rattle.low.specs.Units.{unit}\npub seven : ℕ\n' > crates/low/specs/Numbers.antt
+echo 'pub unit : ℕ' > crates/low/specs/Units.antt
+echo 'pub nine : ℕ' > crates/low/specs/Unused.antt
+cat > crates/high/src/lib.rt << 'END'
+ghost use Rattle.low.specs.Numbers.{seven};
+
+use low::{Counts, number};
+
+pub fn two() -> u64
+    ensures { result ≡ seven }
+{
+    let two = number();
+    two
+}
+END
 echo 'pub two : ℕ' > crates/high/specs/Twos.antt
-printf '# %s\nfile: src/lib.rt\nold: 2 }\nnew: %s }\n\n' one 1 three 3 > crates/high/wrong-bodies/wrong-bodies.txt
+printf '# %s\nfile: src/lib.rt\nold: = number();\nnew: = %s;\n\n' one 1 three 3 > crates/high/wrong-bodies/wrong-bodies.txt
 python3 -B -c 'import sys
 sys.path.insert(0, "tests/wrong_bodies")
 from records import Record
@@ -69,19 +89,24 @@ case_below() {
   says 0 '' 'a comment below' low/src/lib.rt 'A number' 'One number'
   says 0 '' 'a body below' low/src/lib.rt 'let seven = own();' 'let seven = 7;'
   says 0 '' 'the body of a method below' low/src/lib.rt false true
-  says 0 '' 'an import below' low/src/lib.rt 'use std::alloc' 'use std::mem'
+  says 0 '' 'an import of code below' low/src/lib.rt 'use std::alloc' 'use std::mem'
   says 0 '' 'a private contract below' low/src/lib.rt '5 + 2' '4 + 3'
-  says 0 "$below" 'a contract below' low/src/lib.rt 'result ≡ 7' 'result ≡ 8'
-  says 0 "$below" 'a contract of a trait below' low/src/lib.rt counted tallied
-  says 0 "$below" 'a contract of a method with a body' low/src/lib.rt wanting lacking
-  says 0 "$below" 'a definition below' low/specs/Numbers.antt seven eight
+  says 0 '' 'a contract that is not called' low/src/lib.rt nine ten
+  says 0 '' 'a definition that is not cited' low/specs/Unused.antt nine ten
+  says 1 "$below" 'a contract below' low/src/lib.rt 'result ≡ 7' 'result ≡ 8'
+  says 1 "$below" 'a contract of a trait below' low/src/lib.rt counted tallied
+  says 1 "$below" 'a contract of a method with a body' low/src/lib.rt wanting lacking
+  says 1 "$below" 'a definition below' low/specs/Numbers.antt 'seven :' 'eight :'
+  says 1 "$below" 'a definition that one below cites' low/specs/Units.antt unit one
+  says 1 "$below" 'a definition below that is imported from elsewhere' low/specs/Numbers.antt Units Unused
 }
 
 case_own() {
-  says 1 "$own" 'a body of the crate' high/src/lib.rt '{ 2 }' '{ 1 + 1 }'
+  says 1 "$own" 'a body of the crate' high/src/lib.rt 'let two' 'let deux'
+  says 1 "$own" 'a definition of a clause that is imported from elsewhere' high/src/lib.rt specs.Numbers specs.Unused
   says 1 "$own" 'a definition of the crate' high/specs/Twos.antt two three
-  says 1 "$own" 'a wrong body' high/wrong-bodies/wrong-bodies.txt 'new: 3' 'new: 4'
-  says 1 "$own" 'a new wrong body' high/wrong-bodies/wrong-bodies.txt '# three' '# four\nold: 2 }\nnew: 4 }\n\n# three'
+  says 1 "$own" 'a wrong body' high/wrong-bodies/wrong-bodies.txt 'new: = 3' 'new: = 4'
+  says 1 "$own" 'a new wrong body' high/wrong-bodies/wrong-bodies.txt '# three' '# four\nold: = number();\nnew: = 4;\n\n# three'
   says 1 "$own" 'a heading that is gone' high/wrong-bodies/wrong-bodies.txt '# three' ''
   says 1 "$own
 wrong bodies that each run tries are not there" 'one of each run that is gone' high/wrong-bodies/wrong-bodies.txt '# one' '# eins'

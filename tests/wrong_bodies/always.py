@@ -16,7 +16,8 @@ import kinds
 import toolchain
 from functions import NoCopy, WrongBody, functions, types_of
 from judging import judge, read_judgements
-from records import ROOT, bodies, files_in, sources_of
+from records import bodies
+from sources import ROOT, files_in, sources_of
 
 HOLE = """use Rattle.{crate}.proofs.{path}.Statement.{{statement}}
 

@@ -16,7 +16,8 @@ import subprocess
 import sys
 import tempfile
 
-from records import ROOT, crates_below, files_in, sum_over, words_in, words_of
+from records import sum_over
+from sources import ROOT, crates_below, files_in, words_in, words_of
 
 ROWS = "definition_rows"
 CRATE = f"{ROOT}/crates/{ROWS}"

@@ -33,7 +33,7 @@ BATCH, PROGRAM_BATCH = 30, 8
 
 
 def check_records():
-    """Fails where a crate or its wrong bodies have changed, or one that each run tries is gone. Where something below has, it says so."""
+    """Fails where a crate or its wrong bodies have changed, or what its check can see below, or where one that each run tries is gone."""
     records = {it: Record(f"{ROOT}/crates/{it}") for it in crates_with_wrong_bodies()}
     own = [it for it, record in records.items() if not record.is_whole()]
     if own:
@@ -44,7 +44,7 @@ def check_records():
     gone = always.missing()
     if gone:
         print("wrong bodies that each run tries are not there:", *gone)
-    return 1 if own or gone else 0
+    return 1 if own or below or gone else 0
 
 
 class Trial:

@@ -3,94 +3,30 @@
 `wrong-bodies/REFUSED` of a crate has these lines:
 
     crate SUM          over the words of the crate's src and specs
-    below SUM          over the specs of all crates below, and the clauses in their src
+    below SUM          over what the crate's check can see of crates below: contracts that its src may call, and definitions
     clause SUM NAME    a body that a clause of the contract refuses, with a sum over its own words
     proof SUM NAME     a body that only a written proof refuses
 
 Tests of the crate's own, `src/tests.rt` and `src/tests/`, are left out, with the lines that declare them: no wrong body rests on
-them. The clauses in a file's src are all its words except imports and what no crate above can cite: the bodies of functions, and
-private functions.
+them. `sources.py` tells what words are, and what is seen below: no body, and of an import the name with its module.
 """
 
 import hashlib
 import os
 import re
 
-from functions import functions
-
-ROOT = os.path.dirname(os.path.dirname(os.path.dirname(os.path.abspath(__file__))))
+from sources import ROOT, files_in, seen_below, sources_of, text_of, words_in, words_of
 
 
 def bodies(crate):
     """The wrong bodies of a crate, each with its name: a paragraph of `wrong-bodies.txt` below its heading."""
-    with open(f"{crate}/wrong-bodies/wrong-bodies.txt", encoding="utf-8") as file:
-        paragraphs = re.split(r"(?m)^# ", file.read())[1:]
+    paragraphs = re.split(r"(?m)^# ", text_of(f"{crate}/wrong-bodies/wrong-bodies.txt"))[1:]
     return sorted((head.strip(), text) for head, _, text in (it.partition("\n") for it in paragraphs))
 
 
 def crates_with_wrong_bodies():
     names = sorted(os.listdir(f"{ROOT}/crates"))
     return [it for it in names if os.path.isdir(f"{ROOT}/crates/{it}/wrong-bodies")]
-
-
-def words_of(path):
-    with open(path, encoding="utf-8") as file:
-        return words_in(file.read())
-
-
-def words_in(text):
-    """The words of a text, without comments and layout. Of an import they are what is imported, not where it stands."""
-    lines = [it.strip() for it in text.split("\n")]
-    imported, kept = set(), []
-    for line in lines:
-        if line in ("#[cfg(test)]", "mod tests;"):
-            continue
-        place = re.fullmatch(r"(?:ghost )?use Rattle\.[^{}]*?(?:\.\{([^}]*)\}| as (\w+));?", line)
-        if place:
-            imported.update(it.rpartition(".")[2] for it in (place[1] or place[2] or "").split(", "))
-        elif not line.startswith(("//", "--")):
-            kept += line.split()
-    return sorted(imported) + kept
-
-
-def clauses_of(path):
-    """The words of a file of src that a crate above can cite: no body, no private function, no import."""
-    with open(path, encoding="utf-8") as file:
-        lines = file.read().split("\n")
-    unread = set()
-    for function in functions(lines):
-        is_seen = re.match(r" *pub ", lines[function.at]) or function.is_of_a_trait()
-        unread.update(range(function.opens + 1, function.end) if is_seen else range(function.first, function.end + 1))
-    importing = False
-    for at, line in enumerate(lines):
-        importing = importing or bool(re.match(r"\s*(ghost )?use ", line))
-        if importing:
-            unread.add(at)
-            importing = not line.endswith(";")
-    return words_in("\n".join(line for at, line in enumerate(lines) if at not in unread))
-
-
-def crates_below(name):
-    """The repository's crates that this one stands on, as `crates.txt` says."""
-    with open(f"{ROOT}/crates.txt", encoding="utf-8") as file:
-        lines = [it.split("#")[0].partition(":") for it in file]
-    uses = {head.split()[0]: rest.split() for head, _, rest in lines if head.strip()}
-    below, waiting = set(), [name]
-    while waiting:
-        new = [it for it in uses.get(waiting.pop(), []) if it in uses and it not in below]
-        below.update(new)
-        waiting += new
-    return sorted(below)
-
-
-def files_in(*folders):
-    return sorted(f"{at}/{it}" for folder in folders for at, _, names in os.walk(folder) for it in names)
-
-
-def sources_of(crate):
-    """The files of a crate's src, without its own tests."""
-    tests = f"{crate}/src/tests"
-    return [it for it in files_in(f"{crate}/src") if it != f"{tests}.rt" and not it.startswith(f"{tests}/")]
 
 
 def sum_over(words):
@@ -108,11 +44,7 @@ def sum_of_crate(crate):
 
 
 def sum_below(crate):
-    """A sum over the definitions of all crates below, and the clauses in their src."""
-    below = [f"{ROOT}/crates/{it}" for it in crates_below(os.path.basename(crate))]
-    words = {it: words_of(it) for it in files_in(*(f"{it}/specs" for it in below))}
-    words.update({it: clauses_of(it) for folder in below for it in sources_of(folder)})
-    return sum_over({os.path.relpath(it, ROOT): found for it, found in words.items()})
+    return sum_over(seen_below(crate))
 
 
 def sums_of_bodies(crate):
