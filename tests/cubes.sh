@@ -247,7 +247,7 @@ case_words() {
   done
   echo '6 0 5 3 4 0' > four/1.lrat
   says 0 "$(cubes --help)" cubes -h
-  version=$(sed -n 's/^const VERSION: &str = "\([^ "]*\).*/\1/p' "$top/crates/command/src/status.rt")
+  version=$(sed -n 's/^const VERSION: &str = "\([^"]*\).*/\1/p' "$top/crates/command/src/status.rt")
   for option in -V --version; do
     says 0 "cubes $version" cubes "$option"
   done

@@ -171,7 +171,7 @@ case_varisat_check() {
   expect not_shown 3 's NOT SHOWN' '' unit.cnf end.proof
   refused no_proof nothing.proof 'step 1: Unexpected end of proof file' unit.cnf nothing.proof
   expect no_arguments 0 's UNSATISFIABLE' ''
-  expect version 0 'varisat_check 0.3.0 (varisat-checker 0.2.2)' '' --version
+  expect version 0 'varisat_check 0.4.0 (built from sources)' '' --version
   misused one_argument 'no file is named for PROOF' 'varisat_check CNF PROOF [LRAT] [--quiet] [--verbose]' unit.cnf
   misused four_arguments 'unexpected argument: more.lrat' 'varisat_check CNF PROOF [LRAT] [--quiet] [--verbose]' unit.cnf end.proof hints.lrat more.lrat
   expect hints 0 's UNSATISFIABLE' '' par10.cnf par10.whole.proof hints.lrat
@@ -264,7 +264,7 @@ examples:
       hint_check formula.cnf proof.lrat
   check a proof in varisat'"'"'s format, and once more by its hints:
       varisat_check formula.cnf proof.bytes proof.lrat && hint_check formula.cnf proof.lrat' '' --help
-  expect version 0 'hint_check 0.3.0 (varisat-checker 0.2.2)' '' --version
+  expect version 0 'hint_check 0.4.0 (built from sources)' '' --version
   misused one_argument 'no file is named for LRAT' 'hint_check CNF LRAT [--ids WAY] [--quiet] [--verbose]' unit.cnf
   misused three_arguments 'unexpected argument: more.lrat' 'hint_check CNF LRAT [--ids WAY] [--quiet] [--verbose]' unit.cnf par10.lrat more.lrat
   misused other_ids '--ids takes plain or doubled' 'hint_check CNF LRAT [--ids WAY] [--quiet] [--verbose]' --ids odd unit.cnf par10.lrat
@@ -373,7 +373,7 @@ case_lrat_check() {
   refused unreadable_proof /proc/self/mem 'proof: error reading proof: Input/output error (os error 5)' four.cnf /proc/self/mem
   misused no_arguments 'no file is named for CNF' 'lrat_check CNF LRAT [--ids WAY] [--holds FILE] [--receipt FILE] [--stats] [--json] [--quiet] [--verbose]'
   expect example 0 's VERIFIED UNSAT' '' --example
-  expect version 0 'lrat_check 0.3.0 (varisat-checker 0.2.2)' '' --version
+  expect version 0 'lrat_check 0.4.0 (built from sources)' '' --version
   misused one_argument 'no file is named for LRAT' 'lrat_check CNF LRAT [--ids WAY] [--holds FILE] [--receipt FILE] [--stats] [--json] [--quiet] [--verbose]' four.cnf
   misused three_arguments 'unexpected argument: more.lrat' 'lrat_check CNF LRAT [--ids WAY] [--holds FILE] [--receipt FILE] [--stats] [--json] [--quiet] [--verbose]' four.cnf par10.lrat more.lrat
   misused other_ids '--ids takes plain or doubled' 'lrat_check CNF LRAT [--ids WAY] [--holds FILE] [--receipt FILE] [--stats] [--json] [--quiet] [--verbose]' --ids odd four.cnf par10.lrat
@@ -410,7 +410,7 @@ case_lrat_to_proof() {
   refused unknown unknown.lrat 'proof: line 1: no clause has the id of a hint' unit.cnf unknown.lrat "$work/files/refused"
   misspelled malformed_formula malformed.cnf 'formula: line 2: bad number' x malformed.cnf par10.lrat "$work/files/refused"
   refused malformed_proof malformed.lrat 'proof: line 1: malformed line' unit.cnf malformed.lrat "$work/files/refused"
-  expect version 0 'lrat_to_proof 0.3.0 (varisat-checker 0.2.2)' '' --version
+  expect version 0 'lrat_to_proof 0.4.0 (built from sources)' '' --version
   convert_call='lrat_to_proof CNF LRAT PROOF [--ids WAY] [--width N]'
   while IFS=: read -r words why; do
     read -ra arguments <<< "$words"

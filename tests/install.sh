@@ -56,8 +56,8 @@ case_programs() {
     same "$name --version" "$name" "${said%% *}"
     described "$name"
   done
-  version=$("$prefix/bin/lrat_check" --version | cut -d ' ' -f 2)
-  for name in checked_all circuit_sweep proof_picture sessions; do
+  version=$("$prefix/bin/lrat_check" --version | cut -d ' ' -f 2-)
+  for name in checked checked_all circuit_sweep cubes pieces proof_picture sessions; do
     same "$name --version" "$name $version" "$("$prefix/bin/$name" --version)"
   done
 }

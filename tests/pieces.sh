@@ -428,7 +428,7 @@ case_words() {
   says 0 2 cat two/count
   says 0 'cut into 2 pieces' pieces --lemmas=1 cut eight.cnf --live 100 eight.drat two
   says 0 "$(pieces --help)" pieces -h
-  version=$(sed -n 's/^const VERSION: &str = "\([^ "]*\).*/\1/p' "$top/crates/command/src/status.rt")
+  version=$(sed -n 's/^const VERSION: &str = "\([^"]*\).*/\1/p' "$top/crates/command/src/status.rt")
   for option in -V --version; do
     says 0 "pieces $version" pieces "$option"
   done

@@ -97,7 +97,7 @@ case_faults() {
   says 2 "it takes CNF, LRAT and SVG, and not 4 words $more" six.cnf six.lrat six.svg more.svg
   says 2 'cannot write -: the picture is a file, and standard output has lines that say how large the proof is' six.cnf six.lrat -
   says 2 'cannot write six.cnf: it is six.cnf, which is read' six.cnf six.lrat six.cnf
-  version=$(sed -n 's/^const VERSION: &str = "\([^ "]*\).*/\1/p' "$top/crates/command/src/status.rt")
+  version=$(sed -n 's/^const VERSION: &str = "\([^"]*\).*/\1/p' "$top/crates/command/src/status.rt")
   for flag in -V --version; do
     says 0 "proof_picture $version" "$flag"
     says 0 "proof_picture $version" six.cnf "$flag" six.lrat

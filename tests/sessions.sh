@@ -384,7 +384,7 @@ case_words() {
   wrong_call 'there is no option --halp' --halp
   wrong_call 'there is no call chek' chek two.icnf two.idrup
   wrong_call 'no call: check or write'
-  version=$(sed -n 's/^const VERSION: &str = "\([^ "]*\).*/\1/p' "$top/crates/command/src/status.rt")
+  version=$(sed -n 's/^const VERSION: &str = "\([^"]*\).*/\1/p' "$top/crates/command/src/status.rt")
   for flag in -V --version; do
     says 0 "sessions $version" sessions "$flag"
   done

@@ -13,8 +13,8 @@ extern "C" {
 #endif
 
 /* The version of this header; the number is 10000 for the first part, 100 for the second and 1 for the third. */
-#define CEFINDRATO_VERSION "0.3.0"
-#define CEFINDRATO_VERSION_NUMBER 300
+#define CEFINDRATO_VERSION "0.4.0"
+#define CEFINDRATO_VERSION_NUMBER 400
 
 enum {
     CEFINDRATO_VERIFIED = 0,     /* no assignment satisfies the formula; of a model: it satisfies the formula */

@@ -3,7 +3,7 @@
 
 pkgs.stdenv.mkDerivation {
   pname = "cefindrato";
-  version = "0.3.0";
+  version = "0.4.0";
   src = ../..;
   nativeBuildInputs = [ pkgs.python3 ];
   buildInputs = [ pkgs.python3 ];

@@ -37,4 +37,4 @@ __all__ = [
     "solve",
     "where",
 ]
-__version__ = "0.3.0"
+__version__ = "0.4.0"

@@ -139,7 +139,7 @@ pub fn check_model(cnf: &[u8], answer: &[u8]) -> Result<ModelVerdict, Fault> {
     })
 }
 
-/// The version of the library: 0.3.0 is `(0, 3, 0)`.
+/// The version of the library: 0.4.0 is `(0, 4, 0)`.
 pub fn version() -> (u32, u32, u32) {
     let number = library::version();
     (number / 10_000, number / 100 % 100, number % 100)

@@ -13,8 +13,9 @@ pub const FAILED: u8 = 1;
 /// The exit status of a call that can't be run.
 pub const NOT_RUN: u8 = 2;
 
-/// The version of all programs, and that of the Rust crate whose rules `varisat_check` has.
-const VERSION: &str = "0.3.0 (varisat-checker 0.2.2)";
+/// The version of all programs, and what they are built from. For `dist/`, `tools/dist.sh` writes
+/// over the words in brackets, byte for byte: `commit` and the first eleven digits of the commit.
+const VERSION: &str = "0.4.0 (built from sources)";
 
 /// Prints a program's help. Returns the exit status: 0, also if the reader closed the pipe, or 1 if
 /// it can't be written.
