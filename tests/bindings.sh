@@ -51,7 +51,7 @@ for program in drat_check lrat_check model_check session_check; do
   if [[ -x $top/crates/${program}_main/out/${program}_main ]]; then
     ln -s "$top/crates/${program}_main/out/${program}_main" "$work/bin/$program"
   else
-    echo "$program is not built: not tried"
+    not_tried "$program is not built"
   fi
 done
 queries=$'unsatisfiable under -1 and -3: shown\nsatisfiable under -3: shown'

@@ -116,7 +116,7 @@ case_root() {
     same 'the build in a root of its own' '' "$("${enter[@]}" make -s -C /room 2>&1)"
     same 'verdicts in a root of its own' "$verdicts" "$("${enter[@]}" sh -c 'cd /room && . ./calls')"
   else
-    echo 'no root of its own here: not tried in one'
+    not_tried 'no root of its own here'
   fi
 }
 

@@ -169,7 +169,7 @@ case_records() {
     same 'a recorded session' "all answers are shown: $said, 0 unknown, in 1 session" \
       "$(PATH=$prefix/bin:$PATH sessions check "$work/recorded" 2>&1 || true)"
   else
-    echo 'picosat is not installed: not tried'
+    not_tried "$(missing picosat)"
   fi
 }
 

@@ -123,7 +123,7 @@ case_cadical2() {
   for name in "${case_names[@]:2}"; do
     others+=(--case "$name")
   done
-  IS_CADICAL2=1 PATH=$work/two/bin:$PATH "$top/tests/ipasir.sh" "${others[@]}" || wrong=1
+  part_ended env IS_CADICAL2=1 PATH="$work/two/bin:$PATH" "$top/tests/ipasir.sh" "${others[@]}"
 }
 
 case_stand_in() {

@@ -197,7 +197,7 @@ case_image() {
       "$(buildah "${store[@]}" run --isolation chroot -v "$work/data:/data" "$container" drat_check four.cnf four.drat)"
     buildah "${store[@]}" rm --all > "$work/said"
   else
-    echo "buildah does not work here: not tried: $(tail -n 1 "$work/said")"
+    not_tried "buildah does not work here, $(tail -n 1 "$work/said")"
   fi
 }
 

@@ -464,10 +464,7 @@ case_packed() {
   python3 -B "$top/tests/sessions/binary.py" two.lidrup two.binary
   for packer in 'gzip gz' 'xz xz' 'lzma lzma' 'bzip2 bz2' 'zstd zst'; do
     read -r tool end <<< "$packer"
-    if ! type -P "$tool" > said; then
-      echo "$tool is not installed: not tried"
-      continue
-    fi
+    has "$tool" || continue
     edit two.idrup 's/^m 1 -2 0/m 1 2 0/'
     for file in two.icnf two.idrup two.lidrup two.binary changed.idrup; do
       "$tool" -qc "$file" > "$file.$end"
@@ -579,7 +576,7 @@ case_resolvers() {
       wrong=1
     fi
   else
-    echo "no namespaces here: not tried"
+    not_tried 'no namespaces here'
   fi
   if /usr/bin/python3 -c 'import pycosat' 2> err; then
     recorded=(env LD_PRELOAD=./picosat_preload.so /usr/bin/python3 -B)
@@ -592,7 +589,7 @@ case_resolvers() {
       wrong=1
     fi
   else
-    echo "python3-pycosat is not installed: not tried"
+    not_tried 'python3-pycosat is not installed'
   fi
 }
 
