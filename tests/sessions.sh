@@ -525,6 +525,7 @@ case_random() {
 }
 
 case_circuits() {
+  only_with c++
   if c++ -x c++ -std=c++17 -O2 -Wall -Wextra -Werror -c -o ipasir_cadical.o "$layers/ipasir_cadical.cpp" 2> err; then
     cc -O2 -Wall -Wextra -Werror -I "$layers" -c -o circuit.o "$top/tests/sessions/circuit.c"
     c++ -o circuit circuit.o ipasir_cadical.o -lcadical
@@ -547,7 +548,8 @@ case_circuits() {
 }
 
 case_resolvers() {
-  [[ -e /usr/include/picosat/picosat.h ]] || untried 'picosat is not installed'
+  only_with c++
+  [[ -e /usr/include/picosat/picosat.h ]] || untried "$(missing picosat)"
   c++ -std=c++17 -O2 -Wall -Wextra -Werror -shared -fPIC -o picosat_preload.so "$layers/picosat_preload.cpp" -ldl
   cc -O2 -Wall -Wextra -Werror -o resolver "$top/tests/sessions/resolver.c" -lpicosat
   records resolvers "$(./resolver 80 300)" "1 session" env LD_PRELOAD=./picosat_preload.so ./resolver 80 300

@@ -114,7 +114,7 @@ tell_end() {
       sed -n "/^- /d; s|^\\(.*\\): not tried\$|tests/$name.sh: \\1|p" "$told/$name"
     fi
   done | sort -u > "$told/.untried" || failed=1
-  if [[ -s $told/untried ]]; then
+  if [[ -s $told/.untried ]]; then
     echo 'Not tried:'
     cat "$told/.untried"
     name=$(sed -n 's/.*(Debian: \([^)]*\)).*/\1/p' "$told/.untried" | sort -u | paste -s -d ' ')
