@@ -1,6 +1,7 @@
 #!/usr/bin/env bash
 # Builds the library for other languages, and calls it from C, C++, Rust and Python, where the tools are there: by the tests of each,
 # and from projects that stand outside the repository.
+# needs: crates/c_library/out/libc_library.a
 set -euo pipefail
 . "$(dirname "$0")/lib.sh"
 own=$top/tests/bindings

@@ -3,6 +3,7 @@
 # and refuse; and where the sources are those of its commit and the programs are built here, it is made again, to the byte.
 #
 # Without `dist/`, the folder that `tools/dist.sh` makes of the programs that are built here is tried in its place.
+# needs: all
 set -euo pipefail
 . "$(dirname "$0")/lib.sh"
 dist=$top/dist

@@ -6,6 +6,7 @@
 #
 # The library is built if it is not there, and the programs must be: `rt ci` does it. Without CaDiCaL (Debian: libcadical-dev) the
 # stand-in alone is tried. IS_CADICAL2 is set where this script runs itself over CaDiCaL 2.
+# needs: crates/c_library/out/libc_library.a
 set -euo pipefail
 . "$(dirname "$0")/lib.sh"
 own=$top/tests/ipasir

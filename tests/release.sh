@@ -7,6 +7,7 @@
 # The programs and the library must be built. Static programs are tried of those that have their object beside them. BOOKWORM is a folder
 # that debootstrap made; without it one is made, where debootstrap and its mirror are there. What is not installed is said, and the rest
 # is tried.
+# needs: all crates/c_library/out/libc_library.a
 set -euo pipefail
 . "$(dirname "$0")/lib.sh"
 fresh=${1:-}

@@ -9,6 +9,8 @@ mkdir -p "$tree"/{tests/{run,good,data},tools,docs,crates/{app,other}_main/out}
 cp "$top"/tests/run/* "$tree/tests/run"
 cp "$top/tests/lib.sh" "$tree/tests"
 cd "$tree"
+# scripts of some seconds
+cheap=(records proof_picture prove_and_run)
 
 # write NAME: the script tests/NAME.sh, of these lines
 write() {
@@ -60,6 +62,16 @@ tells() {
       cat "$work/said"
     }
   done
+}
+
+# ends STATUS WHAT COMMAND..: the call ends so, or with 77 in place of 0; what it says is in `said`
+ends() {
+  local status=0
+  "${@:3}" > "$work/said" 2>&1 || status=$?
+  if [[ $status != "$1" && "$1 $status" != '0 77' ]]; then
+    fault "$2: status $status, not $1:"
+    tail -n 20 "$work/said"
+  fi
 }
 
 # noted NAME ..: the scripts that are noted
@@ -262,27 +274,97 @@ case_empty() {
   cp "$top"/tests/{weak_edits,layout}.sh empty/tests
   cd empty
   git init -q
-  # ends STATUS COMMAND..
-  ends() {
-    local status=0
-    "${@:2}" > "$work/said" 2>&1 || status=$?
-    same "${*:2}: status" "$1" "$status"
-  }
   : > gate
-  ends 1 tests/weak_edits.sh gate
+  ends 1 "tests/weak_edits.sh" tests/weak_edits.sh gate
   echo '12 passed, 1 failed' > gate
-  ends 1 tests/weak_edits.sh gate
+  ends 1 "tests/weak_edits.sh" tests/weak_edits.sh gate
   echo '0 passed, 0 failed' > gate
-  ends 1 tests/weak_edits.sh gate
+  ends 1 "tests/weak_edits.sh" tests/weak_edits.sh gate
   echo '12 passed, 0 failed' > gate
-  ends 0 tests/weak_edits.sh gate
+  ends 0 "tests/weak_edits.sh" tests/weak_edits.sh gate
   printf 'rt: must-fail one: BAD EDIT\n12 passed, 0 failed\n' > gate
-  ends 1 tests/weak_edits.sh gate
-  ends 123 tests/layout.sh
+  ends 1 "tests/weak_edits.sh" tests/weak_edits.sh gate
+  ends 123 "tests/layout.sh" tests/layout.sh
   mkdir -p crates/low/src
   echo '//! Low.' > crates/low/src/lib.rt
   git add .
-  ends 0 tests/layout.sh
+  ends 0 "tests/layout.sh" tests/layout.sh
+}
+
+# What cheap scripts open and run of the repository is in their keys.
+case_opened() {
+  only_with strace
+  for name in "${cheap[@]}"; do
+    ends 0 "$name" strace -f --seccomp-bpf -y -qq -e trace=open,openat,execve -o "$work/trace" "$top/tests/$name.sh"
+    {
+      sed -n "s|.* = [0-9]*<$top/\([^>]*\)>.*|\1|p" "$work/trace"
+      sed -n 's|.*execve("\(/[^"]*\)".* = 0$|\1|p' "$work/trace" | { xargs -r realpath -q || true; } | sed -n "s|^$top/||p"
+    } | sort -u > "$work/opened"
+    same "what tests/$name.sh opens and its key has not" '' \
+      "$(cd "$top" && comm -23 "$work/opened" <(python3 -B tests/run/keys.py --files "$name" | sort) | grep -v '^\.git/' |
+        while read -r file; do [[ ! -f $file ]] || echo "$file"; done)"
+    grep -qx "tests/$name.sh" "$work/opened" || fault "tests/$name.sh does not open itself"
+  done
+}
+
+# Cheap scripts where the path has only what each machine has; and where one command is missing that is here and that they ask for.
+case_missing() {
+  mkdir "$work/base" "$work/all"
+  while read -r name; do
+    path=$(type -P "$name") || untried "$name is not installed, which each machine has"
+    ln -s "$path" "$work/base/$name"
+  done < <(grep -v '^#' "$top/tests/run/base.txt")
+  IFS=: read -r -a folders <<< "$PATH"
+  for folder in "${folders[@]}"; do
+    ln -s "$folder"/* "$work/all/" 2> "$work/null" || true
+  done
+  for name in "${cheap[@]}"; do
+    ends 0 "$name with what each machine has" env PATH="$work/base" "$top/tests/$name.sh"
+    while read -r command _; do
+      if [[ -e $work/all/$command ]] && grep -qw -e "$command" "$top/tests/$name.sh"; then
+        mv "$work/all/$command" "$work/hidden"
+        ends 77 "$name without $command" env PATH="$work/all" "$top/tests/$name.sh"
+        grep -q "^$command is not installed .*: not tried$" "$work/said" || fault "$name does not say that $command is missing"
+        mv "$work/hidden" "$work/all/$command"
+      fi
+    done < <(grep -v '^#' "$top/tests/run/optional.txt")
+  done
+}
+
+# What a script calls that not each machine has stands behind a question for it.
+case_guards() {
+  cd "$top"
+  same 'calls without a question' '' "$(python3 -B tests/run/guards.py tests/*.sh tests/*/*.sh || true)"
+  cd "$work"
+  cat > calls.sh << 'END_OF_SCRIPT'
+only_with yosys
+said=$(valgrind true)
+run() {
+  timeout 9 cadical x
+}
+case_one() {
+  c++ -c x.cpp
+  only_with c++ gcc
+  if gcc x.c; then yosys; fi
+}
+case_two() {
+  for name in picosat z3; do
+    has "$name" || continue
+    "$name"
+  done
+  has clasp && clasp x
+  # node is called
+  echo 'node' "node node"
+  picosat x | z3
+  ! minisat x
+}
+END_OF_SCRIPT
+  same 'calls without a question' 'case_one calls c++
+case_two calls minisat
+outside of functions calls valgrind
+run calls cadical' "$(python3 -B "$top/tests/run/guards.py" calls.sh | sed 's/^calls.sh: //; s/, which.*//' | sort)"
+  fails=$(grep -L lib.sh "$top"/tests/*.sh | xargs grep -l 'not tried' || true)
+  same 'scripts that say "not tried" by themselves' '' "$fails"
 }
 
 try_cases
