@@ -1,6 +1,7 @@
 #!/usr/bin/env bash
 # Builds the library for other languages, and calls it from C, C++, Rust and Python, where the tools are there: by the tests of each,
 # and from projects that stand outside the repository.
+# needs: crates/c_library/out/libc_library.a
 set -euo pipefail
 . "$(dirname "$0")/lib.sh"
 own=$top/tests/bindings
@@ -51,7 +52,7 @@ for program in drat_check lrat_check model_check session_check; do
   if [[ -x $top/crates/${program}_main/out/${program}_main ]]; then
     ln -s "$top/crates/${program}_main/out/${program}_main" "$work/bin/$program"
   else
-    echo "$program is not built: not tried"
+    not_tried "$program is not built"
   fi
 done
 queries=$'unsatisfiable under -1 and -3: shown\nsatisfiable under -3: shown'

@@ -22,7 +22,7 @@ if (($# == 0)); then
     fi
   done
   for pid in "${!pids[@]}"; do
-    wait "$pid" || wrong=1
+    part_ended wait "$pid"
     sed "s/^/${pids[$pid]}: /" "$work/${pids[$pid]}"
   done
   cases_begun=1

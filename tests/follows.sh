@@ -11,4 +11,7 @@ set -euo pipefail
 needs follows_check minimal_check
 follows=$top/crates/follows_check_main/out/follows_check_main
 minimal=$top/crates/minimal_check_main/out/minimal_check_main
-exec python3 -B "$top/tests/follows/judge.py" "$follows" "$minimal" "${1:-150}" "${2:-1}"
+for name in cadical picomus; do
+  has "$name" || true
+done
+python3 -B "$top/tests/follows/judge.py" "$follows" "$minimal" "${1:-150}" "${2:-1}"

@@ -2,6 +2,7 @@
 # Installs into a fresh prefix, uses what is there, and takes it away again.
 #
 # The programs must be built: `rt ci` does it, or `rt run` in their folders. The library is built if it is not there.
+# needs: programs docs bindings tools debian packaging crates/c_library/out/libc_library.a
 set -euo pipefail
 . "$(dirname "$0")/lib.sh"
 prefix="$work/a/a prefix"
@@ -169,7 +170,7 @@ case_records() {
     same 'a recorded session' "all answers are shown: $said, 0 unknown, in 1 session" \
       "$(PATH=$prefix/bin:$PATH sessions check "$work/recorded" 2>&1 || true)"
   else
-    echo 'picosat is not installed: not tried'
+    not_tried "$(missing picosat)"
   fi
 }
 

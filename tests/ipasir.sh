@@ -6,6 +6,7 @@
 #
 # The library is built if it is not there, and the programs must be: `rt ci` does it. Without CaDiCaL (Debian: libcadical-dev) the
 # stand-in alone is tried. IS_CADICAL2 is set where this script runs itself over CaDiCaL 2.
+# needs: crates/c_library/out/libc_library.a
 set -euo pipefail
 . "$(dirname "$0")/lib.sh"
 own=$top/tests/ipasir
@@ -123,7 +124,7 @@ case_cadical2() {
   for name in "${case_names[@]:2}"; do
     others+=(--case "$name")
   done
-  IS_CADICAL2=1 PATH=$work/two/bin:$PATH "$top/tests/ipasir.sh" "${others[@]}" || wrong=1
+  part_ended env IS_CADICAL2=1 PATH="$work/two/bin:$PATH" "$top/tests/ipasir.sh" "${others[@]}"
 }
 
 case_stand_in() {

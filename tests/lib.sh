@@ -11,6 +11,9 @@
 #
 #   tests/SCRIPT.sh --cases                     the names of its cases
 #   tests/SCRIPT.sh --case NAME [--case NAME]   these alone
+#
+# A script that left something untried, and in which nothing is wrong, ends with status 77. It says so by `untried`, `not_tried`,
+# `only_with` or `has` alone. A comment `# needs: PATH ..` names files of the repository that its text does not (tests/run/keys.py).
 mapfile -t case_names < <(sed -n 's/^case_\([a-z0-9_]*\)() {$/\1/p' "$0")
 cases_asked=() operands=()
 while (($# > 0)); do
@@ -43,12 +46,17 @@ cases_begun=0
 
 # leave STATUS: at the end of a script, whose cases were tried if it ends well
 leave() {
+  local status=$1
   [[ $BASHPID == "$$" ]] || return 0
-  rm -rf "$work" "$work.begun"
-  if [[ $1 == 0 && $cases_begun == 0 && ${#case_names[@]} -gt 0 ]]; then
-    echo 'WRONG the cases were not tried: try_cases is not the last line'
-    exit 1
+  if [[ $status == 0 && -e $work.untried ]]; then
+    status=77
   fi
+  rm -rf "$work" "$work.begun" "$work.untried"
+  if [[ $status == 0 && $cases_begun == 0 && ${#case_names[@]} -gt 0 ]]; then
+    echo 'WRONG the cases were not tried: try_cases is not the last line'
+    status=1
+  fi
+  exit "$status"
 }
 
 # try_cases: runs all cases, or those that were asked for, and says of each how it ended. It fails where something is wrong in one of them,
@@ -101,18 +109,29 @@ end_case() {
   fi
 }
 
+# not_tried WHY: something is missing, and the case goes on without it. That stands in a file, since it may be said in a shell of its own.
+not_tried() {
+  touch "$work.untried" || exit 1
+  echo "$1: not tried"
+}
+
 # untried WHY: the case ends here, since something is missing
 untried() {
-  echo "$1: not tried"
+  not_tried "$1"
   case_how=untried cases_begun=1
   exit 0
+}
+
+# missing PROGRAM: that it is not installed, and the package that has it
+missing() {
+  echo "$1 is not installed$(sed -n "s/^$1 \(.*\)/ (Debian: \1)/p" "$top/tests/run/optional.txt")"
 }
 
 # only_with PROGRAM..: the case ends here if one of them is not installed
 only_with() {
   local name
   for name in "$@"; do
-    command -v "$name" > "$work/where" || untried "$name is not installed"
+    command -v "$name" > "$work/where" || untried "$(missing "$name")"
   done
 }
 
@@ -158,12 +177,23 @@ on_path() {
   export PATH=$work/bin:${PATH#"$work/bin:"}
 }
 
-# has PROGRAM: whether it is installed; if not, that is said
+# has PROGRAM: whether it is installed; if not, that is said, unless no package has it
 has() {
   command -v "$1" > "$work/where" || {
-    echo "$1 is not installed: not tried"
+    grep -qx "$1 -" "$top/tests/run/optional.txt" || not_tried "$(missing "$1")"
     return 1
   }
+}
+
+# part_ended COMMAND..: a part of this script, which is a script itself, has to end well, and may leave something untried
+part_ended() {
+  local status=0
+  "$@" || status=$?
+  case $status in
+    0) ;;
+    77) touch "$work.untried" || exit 1 ;;
+    *) wrong=1 ;;
+  esac
 }
 
 # fault WORD..: says what is wrong

@@ -3,6 +3,7 @@
 #
 # It is made in a copy, over the libraries that `./test.sh` or an earlier run has left, and what that leaves is taken over. Where that
 # can't be done, it says why, and the scripts that want the archive make it.
+# needs: crates crates.txt HANDLES
 set -euo pipefail
 cd "$(dirname "$0")/.."
 work=$(mktemp -d)

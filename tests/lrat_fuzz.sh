@@ -6,5 +6,6 @@
 #   tests/lrat_fuzz.sh [--texts N] [--first SEED] [--lrat-check PROGRAM] ..    the seeds are fixed; a minute at most
 #
 # The programs must be built: `rt ci` does it, or `rt run` in their folders. It needs `python3`.
+# needs: tests/data
 set -euo pipefail
 exec python3 -B "$(dirname "$0")/lrat_fuzz/main.py" "$@"

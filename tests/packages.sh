@@ -7,6 +7,7 @@
 # DIST is a folder that tools/dist.sh made, by default `dist/`. Without one, substitutes that a C compiler builds from
 # tests/packages/stand_in.c take the programs' place. The test names each tool that is not installed (dpkg-buildpackage with debhelper,
 # lintian, buildah, nix-instantiate, ruby, guile), and tries the rest.
+# needs: all
 set -euo pipefail
 . "$(dirname "$0")/lib.sh"
 own=$top/tests/packages
@@ -197,7 +198,7 @@ case_image() {
       "$(buildah "${store[@]}" run --isolation chroot -v "$work/data:/data" "$container" drat_check four.cnf four.drat)"
     buildah "${store[@]}" rm --all > "$work/said"
   else
-    echo "buildah does not work here: not tried: $(tail -n 1 "$work/said")"
+    not_tried "buildah does not work here, $(tail -n 1 "$work/said")"
   fi
 }
 

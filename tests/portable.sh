@@ -7,6 +7,8 @@
 # NAMEs are `lrat_check` and `circuit_check` if none is named. The programs must be built. Their modules are those that `./test.sh` leaves; where
 # it took programs of an earlier run that kept none, the first alone is tried, and proved again in a copy for its module. It uses what is there of
 # node, gcc, clang, tcc, qemu-aarch64 and chromium, and says what is not. FOLDER gets pictures of the page.
+# needs: crates crates/lrat_check_main/out/lrat_check_main.bc crates/lrat_check_main/out/lrat_check_main.bc.words
+# needs: crates/circuit_check_main/out/circuit_check_main.bc crates/circuit_check_main/out/circuit_check_main.bc.words
 set -euo pipefail
 . "$(dirname "$0")/lib.sh"
 pictures=$work
@@ -74,7 +76,8 @@ case_modules() {
   for change in 'another program' 'no module'; do
     status=0
     said=$(XDG_CACHE_HOME=$work/cache "$work/tree/tools/portable.sh" --built "$work/none" "$name" 2>&1) || status=$?
-    same "$change" "1 no module of $name as it is built: tools/portable.sh $work/none $name makes it" "$status $said"
+    # (before it stands which forms can't be made here)
+    same "$change" "1 no module of $name as it is built: tools/portable.sh $work/none $name makes it" "$status ${said##*$'\n'}"
     cp "$top/$built" "$work/tree/$built"
     rm -f "$work/tree/$built.bc"
   done
@@ -103,6 +106,8 @@ compiled() {
 # All forms of a program, beside it.
 case_forms() {
   declare -A compilers
+  has wasm2c || true
+  has aarch64-linux-gnu-gcc || true
   for name in "${names[@]}"; do
     compiles "$name" gcc gcc -O1
     compiles "$name" clang clang -O0

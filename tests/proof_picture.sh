@@ -41,7 +41,7 @@ case_packed() {
   "$picture" six.cnf six.lrat plain.svg > said
   for packer in 'gzip gz' 'xz xz' 'lzma lzma' 'bzip2 bz2' 'zstd zst'; do
     read -r tool end <<< "$packer"
-    command -v "$tool" > /dev/null || continue
+    has "$tool" || continue
     "$tool" -qc six.cnf > "six.cnf.$end"
     "$tool" -qc six.lrat > "six.lrat.$end"
     "$picture" "six.cnf.$end" "six.lrat.$end" packed.svg > said || wrong=1

@@ -7,6 +7,7 @@
 # The programs and the library must be built. Static programs are tried of those that have their object beside them. BOOKWORM is a folder
 # that debootstrap made; without it one is made, where debootstrap and its mirror are there. What is not installed is said, and the rest
 # is tried.
+# needs: all crates/c_library/out/libc_library.a
 set -euo pipefail
 . "$(dirname "$0")/lib.sh"
 fresh=${1:-}
@@ -199,7 +200,7 @@ case_empty_root() {
     same 'in an empty root' "$(verdicts "${static[@]}")" \
       "$(PREFIX="unshare --user --map-root-user chroot $work/$name-static /bin/" bash -c "$(calls "${static[@]}")")"
   else
-    echo 'no static programs or no namespaces here: not tried in an empty root'
+    not_tried 'no static programs or no namespaces here: an empty root'
   fi
 }
 
@@ -258,10 +259,10 @@ case_readme() {
         done
       done
     else
-      echo "no root of its own here: README's commands are not tried in one: $(cat "$work/said")"
+      not_tried "no root of its own here, $(cat "$work/said"): README's commands"
     fi
   else
-    echo "README's commands are not tried in an empty root"
+    not_tried "README's commands in an empty root"
   fi
 }
 
@@ -284,7 +285,7 @@ case_debian() {
       sleep 1
     done
     if [[ $(< "$beside/ended") != 0 ]]; then
-      echo "no fresh Debian: $(tail -n 1 "$beside/bootstrap")"
+      not_tried "no fresh Debian, $(tail -n 1 "$beside/bootstrap")"
       fresh=
     fi
   fi
@@ -318,7 +319,7 @@ case_wheel() {
       same 'checked of the wheel' '20 s VERIFIED UNSAT' "$status $said"
     fi
   else
-    echo 'no wheel or no venv here: not tried'
+    not_tried 'no wheel or no venv here'
   fi
 }
 

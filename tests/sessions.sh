@@ -464,10 +464,7 @@ case_packed() {
   python3 -B "$top/tests/sessions/binary.py" two.lidrup two.binary
   for packer in 'gzip gz' 'xz xz' 'lzma lzma' 'bzip2 bz2' 'zstd zst'; do
     read -r tool end <<< "$packer"
-    if ! type -P "$tool" > said; then
-      echo "$tool is not installed: not tried"
-      continue
-    fi
+    has "$tool" || continue
     edit two.idrup 's/^m 1 -2 0/m 1 2 0/'
     for file in two.icnf two.idrup two.lidrup two.binary changed.idrup; do
       "$tool" -qc "$file" > "$file.$end"
@@ -528,6 +525,7 @@ case_random() {
 }
 
 case_circuits() {
+  only_with c++
   if c++ -x c++ -std=c++17 -O2 -Wall -Wextra -Werror -c -o ipasir_cadical.o "$layers/ipasir_cadical.cpp" 2> err; then
     cc -O2 -Wall -Wextra -Werror -I "$layers" -c -o circuit.o "$top/tests/sessions/circuit.c"
     c++ -o circuit circuit.o ipasir_cadical.o -lcadical
@@ -550,7 +548,8 @@ case_circuits() {
 }
 
 case_resolvers() {
-  [[ -e /usr/include/picosat/picosat.h ]] || untried 'picosat is not installed'
+  only_with c++
+  [[ -e /usr/include/picosat/picosat.h ]] || untried "$(missing picosat)"
   c++ -std=c++17 -O2 -Wall -Wextra -Werror -shared -fPIC -o picosat_preload.so "$layers/picosat_preload.cpp" -ldl
   cc -O2 -Wall -Wextra -Werror -o resolver "$top/tests/sessions/resolver.c" -lpicosat
   records resolvers "$(./resolver 80 300)" "1 session" env LD_PRELOAD=./picosat_preload.so ./resolver 80 300
@@ -579,7 +578,7 @@ case_resolvers() {
       wrong=1
     fi
   else
-    echo "no namespaces here: not tried"
+    not_tried 'no namespaces here'
   fi
   if /usr/bin/python3 -c 'import pycosat' 2> err; then
     recorded=(env LD_PRELOAD=./picosat_preload.so /usr/bin/python3 -B)
@@ -592,7 +591,7 @@ case_resolvers() {
       wrong=1
     fi
   else
-    echo "python3-pycosat is not installed: not tried"
+    not_tried 'python3-pycosat is not installed'
   fi
 }
 

@@ -3,7 +3,7 @@
 # only because a proof file names what they took away.
 #
 # It reads what `rt ci` wrote, from the file that is named, or else tries all edits itself, which takes an hour.
-# It exits 1 if there is one.
+# It exits 1 if there is one, and if the file has not the end of a whole run in which nothing failed.
 set -euo pipefail
 
 cd "$(dirname "$0")/.."
@@ -13,6 +13,10 @@ if (($# == 0)); then
   rt must-fail > "$work/tried" 2>&1
 fi
 told=${1:-$work/tried}
+if (($# > 0)) && [[ ! $(tail -n 1 "$told") =~ ^[1-9][0-9]*\ passed,\ 0\ failed$ ]]; then
+  echo "$told is no whole run of \`rt ci\`: its last line is: $(tail -n 1 "$told")"
+  exit 1
+fi
 bad=$(sed -n 's/^rt: must-fail \([^:]*: BAD EDIT\).*/\1/p' "$told")
 weak=$(sed -n 's/^rt: must-fail \([^:]*\): refused, .*this says \(little\|less\) of the contract.*/\1/p' "$told")
 if [[ -n $bad$weak ]]; then

@@ -59,7 +59,7 @@ wrong_call '--call and --no-proof exclude each other' four.cnf --solver right --
 wrong_call '--while keeps no proof' four.cnf --solver right --while --keep-proofs kept
 wrong_call '--json - prints the rows, and no report' four.cnf --solver right --json - --report
 DRAT_CHECK=./none wrong_call 'cannot run ./none' four.cnf --solver right
-has srun > said || wrong_call 'cannot run srun' four.cnf --solver right --slurm
+type -P srun > said || wrong_call 'cannot run srun' four.cnf --solver right --slurm
 version=$(sed -n 's/^const VERSION: &str = "\([^"]*\).*/\1/p' "$top/crates/command/src/status.rt")
 for flag in -V --version; do
   ends 0 "checked_all $version" checked_all "$flag"

