@@ -192,29 +192,8 @@ END
 printf '#!/bin/sh\nprintf "1 0\\n0\\n" > "$2"\nexit 20\n' > "$room/files/solver"
 chmod +x "$room/files/solver"
 
-<<<<<<< HEAD
 # In a path that has `cc` and `make`; then each program says its call as README.md has it, its version and its commit, and the scripts find
 # the programs where they are built.
-=======
-# In a root that has what Debian has below /usr, and nothing else.
-case_root() {
-  root=$work/root
-  mkdir -p "$root"/{usr,etc/alternatives,tmp}
-  for name in bin lib lib64; do
-    ln -s "usr/$name" "$root/$name"
-  done
-  cp -R "$work/room" "$root/room"
-  enter=(unshare --mount --map-root-user bash -c 'mount --rbind /usr "$1/usr" && mount --rbind /etc/alternatives "$1/etc/alternatives" && shift && exec "$@"' - "$root" chroot "$root" env -i PATH=/usr/bin)
-  if "${enter[@]}" cc --version > "$work/said" 2>&1; then
-    same 'the build in a root of its own' '' "$("${enter[@]}" make -s -C /room 2>&1)"
-    same 'verdicts in a root of its own' "$verdicts" "$("${enter[@]}" sh -c 'cd /room && . ./calls')"
-  else
-    not_tried 'no root of its own here'
-  fi
-}
-
-# In an empty folder, with a path that has `cc` and `make`.
->>>>>>> e59ce8cd
 case_build() {
   only_with make readelf
   mkdir "$work/path"
