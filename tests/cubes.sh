@@ -158,6 +158,62 @@ case_programs() {
   JOIN_CHECK=joiner says 1 'the receipts are not joined: no receipt shows part 1' cubes report four.cnf same.txt four
 }
 
+# A checker that ends with status 2 was asked nothing, so it refuses nothing, and no later part is tried with it.
+case_status_2() {
+  rm four/*.receipt
+  printf '#!/bin/sh\necho "there is no option --receipt" >&2\nexit 2\n' > bin/old
+  printf '#!/bin/sh\nexit 2\n' > bin/silent
+  chmod +x bin/old bin/silent
+  LRAT_CHECK=old faults 'old cannot be asked: there is no option --receipt' cubes check --whose four.cnf two.txt four 1 2
+  LRAT_CHECK=silent faults 'silent cannot be asked: silent ended with status 2' cubes check four.cnf two.txt four 1
+  says 0 '' cubes check four.cnf two.txt four 1 2 closing
+  JOIN_CHECK=old faults 'old cannot be asked: there is no option --receipt' cubes report four.cnf two.txt four
+  printf 's SATISFIABLE\nv 1 2 0\n' > four/1.answer
+  MODEL_CHECK=old faults 'old cannot be asked: there is no option --receipt' cubes check four.cnf two.txt four 1
+}
+
+# A receipt that was cut off in copying is named, and made again in a folder with the mark; another file is not.
+case_cut_receipt() {
+  cp four/1.receipt whole
+  size=$(stat -c %s whole)
+  for length in 0 1 7 8 15 40 $((size - 1)); do
+    head -c "$length" whole > four/1.receipt
+    says 1 $'1: four/1.receipt is cut off\n1 of 3 parts are not verified' cubes report four.cnf two.txt four
+    says 0 1 cubes left four.cnf two.txt four
+    says 0 '1: four/1.receipt was cut off: it is made again' cubes check four.cnf two.txt four 1
+    same four/1.receipt "$(cat whole)"
+    says 0 "$all" cubes report four.cnf two.txt four
+  done
+  head -c 40 whole > four/1.receipt
+  rm four/split
+  faults 'cannot write four/1.receipt: there is a file that cubes did not write' cubes check four.cnf two.txt four 1
+  same four/1.receipt "$(head -c 40 whole)"
+  cubes parts four.cnf two.txt marked
+  cp four/1.lrat marked
+  for text in 'refused sha256' 'refuted sha256 0x' "$(cat whole)0" 'rx'; do
+    printf '%s\n' "$text" > marked/1.receipt
+    faults 'cannot write marked/1.receipt: there is a file that cubes did not write' cubes check four.cnf two.txt marked 1
+    says 1 $'1: what is kept is of another formula or cube\n2: no proof\nclosing: no proof\n3 of 3 parts are not verified' \
+      cubes report four.cnf two.txt marked
+  done
+}
+
+# Numbers that are too long to be those of a literal, in each place: the line or the word is named, at any length.
+case_long_numbers() {
+  for length in 21 4300 4301 100000; do
+    long=$(head -c "$length" /dev/zero | tr '\0' 1)
+    for line in "$long 0" "1 -$long 0" "a $long 0"; do
+      printf '1 0\n%s\n' "$line" > long.txt
+      faults 'long.txt: line 2: not literals up to a 0' cubes names four.cnf long.txt
+      faults 'long.txt: line 2: not literals up to a 0' cubes check four.cnf long.txt four 1
+    done
+    printf '1 0\n1 -%s 0\n' "$long" > long.cnf
+    ((length < 1000)) || long=${long:0:39}
+    faults "long.cnf: a word that is no number: -$long" cubes left long.cnf two.txt four
+    says 2 "there is no part $long" cubes part four.cnf two.txt "$long"
+  done
+}
+
 case_random() {
   python3 -B "$top/tests/cubes/fuzz.py" "$count" "$seed" || wrong=1
 }
@@ -203,7 +259,7 @@ case_overwrites() {
   faults 'cannot write theirs/2.receipt: there is a file that cubes did not write' cubes check four.cnf two.txt theirs 1 2
   same theirs/2.receipt theirs
   : > theirs/2.receipt
-  says 0 '' cubes check four.cnf two.txt theirs 2
+  says 0 '2: theirs/2.receipt was cut off: it is made again' cubes check four.cnf two.txt theirs 2
   faults 'cannot use own/1.cnf: File exists' cubes parts four.cnf two.txt own/1.cnf
 }
 
@@ -260,7 +316,7 @@ case_standard_output() {
   faults 'cannot use standard output: No space left on device' bash -c 'cubes report four.cnf two.txt four > /dev/full'
   faults 'standard output is closed' bash -c 'cubes report four.cnf two.txt four >&-'
   cp -R four $'\xff'
-  says 1 $'1: \xff/1.lrat is refused: word 2 of the call is not UTF-8: \\xff/1.lrat' cubes check four.cnf two.txt $'\xff' 1
+  faults 'lrat_check cannot be asked: word 2 of the call is not UTF-8: \xff/1.lrat' cubes check four.cnf two.txt $'\xff' 1
 }
 
 # Packed files, by each packer that is there: a record is of what was unpacked, one that is cut off at its end is refused by its name,

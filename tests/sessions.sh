@@ -336,6 +336,68 @@ case_binary() {
   malformed 'U\x80\0'
   malformed 'U\0'
   malformed 'u'
+  # nine bytes may be a number, ten may not
+  nine='\xff\xff\xff\xff\xff\xff\xff\xff\x7f'
+  printf 'p idrup\ni\x80\x01\xd9\x04\0i\xd8\x04\0q\x81\x01\0sUNSATISFIABLEU%bu\x81\x01\0i\x81\x01\0' "$nine" > long.idrup
+  says 0 "$many" sessions check long.icnf long.idrup
+  malformed "U\x80${nine}u\x81\x01\0"
+  malformed "u\x80$nine\0"
+  malformed "u$(printf '\\x81%.0s' {1..3000})\x01\0"
+}
+
+# A number without end is refused at its tenth byte, and not read for as long as it goes on: twenty times as much takes no longer.
+case_endless_number() {
+  for kind in d U u; do
+    printf 'p idrup\ni\x80\x01\xd9\x04\0i\xd8\x04\0q\x81\x01\0sUNSATISFIABLE%s' "$kind" > endless.idrup
+    head -c 2000000 /dev/zero | tr '\0' '\201' >> endless.idrup
+    printf '\1\0' >> endless.idrup
+    printf 'p icnf\ni 64 -300 0\ni 300 0\nq -64 0\ns UNSATISFIABLE\n' > long.icnf
+    ends 1 $'query 1 of line 4: no answer to it: proof: line 6: malformed\n1 of 1 answers are not shown' \
+      timeout 20 sessions check long.icnf endless.idrup
+  done
+}
+
+# Numbers of texts that are too long for one: the line is malformed, at any length.
+case_long_numbers() {
+  for length in 21 4300 4301 100000; do
+    long=$(head -c "$length" /dev/zero | tr '\0' 1)
+    for line in 3 4 6 9; do
+      sed "${line}s/ 0\$/ $long 0/" two.icnf > changed.icnf
+      ends 1 "interaction: line $line: malformed" sessions check changed.icnf two.idrup
+    done
+    for line in 2 3 5 8; do
+      sed "${line}s/ 0\$/ -$long 0/" two.idrup > changed.idrup
+      if sessions check two.icnf changed.idrup > said 2> err || [[ $? != 1 || -s err || $(head -n 1 said) != *": no answer to it: proof: line $line: malformed" ]]; then
+        fault "$length digits in line $line: $(head -c 300 said err)"
+      fi
+    done
+    sed "12s/ 0\$/ -$long 0/" two.idrup > changed.idrup
+    ends 1 'proof: a word of a lemma that is no number' sessions check two.icnf changed.idrup
+    for edit in "8s/^/U $long\n/" "9s/i 4/i $long/" "12s/ 1 0\$/ 1 $long 0/"; do
+      sed "$edit" two.lidrup > changed.lidrup
+      if sessions check two.icnf changed.lidrup > said 2> err || [[ $? != 1 || -s err || $(head -n 1 said) != *': no answer to it: proof: line '*': malformed' ]]; then
+        fault "$length digits by ${edit:0:10}: $(head -c 300 said err)"
+      fi
+    done
+  done
+}
+
+# Without a query no answer is shown, here as by `verified --run`; what is wrong with the files is told first.
+case_no_query() {
+  printf 'p icnf\ni 1 0\n' > none.icnf
+  printf 'p idrup\ni 1 0\n' > none.idrup
+  ends 3 'no answer was seen' sessions check none.icnf none.idrup
+  printf 'p idrup\n' > short.idrup
+  ends 1 'after the last answer: the proof ends before that' sessions check none.icnf short.idrup
+  mkdir recorded
+  cp none.* recorded
+  echo none > recorded/sessions.index
+  ends 3 'no answer was seen' sessions check recorded
+  # one of two sessions has answers
+  cp two.icnf recorded/two.icnf
+  cp two.idrup recorded/two.idrup
+  echo two >> recorded/sessions.index
+  ends 0 "$all, in 2 sessions" sessions check recorded
 }
 
 # Deletions are advice: the only lemma goes before the core that needs it. With it kept the answer is shown.
@@ -358,6 +420,10 @@ case_checkers() {
 query 4 of line 13: its core is not shown: drat_check: ended with status 0\n2 of 4 answers are not shown' \
     sessions check two.icnf two.idrup
   DRAT_CHECK=./none says 2 'cannot run ./none: No such file or directory' sessions check two.icnf two.idrup
+  printf '#!/bin/sh\necho "no such option" >&2\nexit 2\n' > bin/unasked
+  chmod +x bin/unasked
+  DRAT_CHECK=unasked says 2 'unasked cannot be asked: no such option' sessions check two.icnf two.idrup
+  MODEL_CHECK=unasked says 2 'unasked cannot be asked: no such option' sessions check two.icnf two.idrup
   # programs beside the script, ahead of those on PATH
   mkdir alone false
   cp "$top/tools/sessions" alone
@@ -368,7 +434,7 @@ query 4 of line 13: its core is not shown: drat_check: ended with status 0\n2 of
   done
   PATH=$work/false:$PATH says 0 "$all" alone/sessions check two.icnf two.idrup
   says 2 'cannot open none.icnf: No such file or directory' sessions check none.icnf two.idrup
-  in_binary 3
+  in_binary 5
 }
 
 # A wrong word of a call is named, in one line; and what each call of this kind says.

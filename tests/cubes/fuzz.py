@@ -100,16 +100,17 @@ class Case:
         place = self.dice.randrange(15, 79)
         others = [right[:place] + self.dice.choice(sorted(set("0123456789abcdef") - {right[place]})) + right[place + 1 :]]
         others += [read(self.receipt(self.dice.choice(self.names))), refuted(read(f"{self.folder}/f"))]
-        others += [refuted(part_text([[1], *self.clauses[at]])), refuted(dimacs(self.clauses[at])), right.replace("refuted", "satisfied"), ""]
-        return at, [it for it in others if it != right]
+        others += [refuted(part_text([[1], *self.clauses[at]])), refuted(dimacs(self.clauses[at])), right.replace("refuted", "satisfied"), "", right[: self.dice.randrange(len(right))]]
+        return at, right, [it for it in others if it != right]
 
     def turned_fault(self):
         """What is joined though a receipt is not that of its part, if anything."""
-        at, others = self.turned()
+        at, right, others = self.turned()
         for other in others:
             write(self.receipt(at), other)
             said = self.say(["report"])
-            if said != (1, f"{at}: what is kept is of another formula or cube\n1 of {len(self.names)} parts are not verified\n", ""):
+            why = f"p/{at}.receipt is cut off" if right.startswith(other) else "what is kept is of another formula or cube"
+            if said != (1, f"{at}: {why}\n1 of {len(self.names)} parts are not verified\n", ""):
                 return f"{at} has the receipt {other}: {said}"
         os.remove(self.receipt(at))
         said = self.say(["report"])
