@@ -5,12 +5,13 @@
 set -euo pipefail
 . "$(dirname "$0")/lib.sh"
 tree=$work/tree told=$work/told passed=$work/passed
-mkdir -p "$tree"/{tests/{run,good,data},tools,docs,crates/{app,other}_main/out}
+mkdir -p "$passed" "$tree"/{tests/{run,good,data},tools,docs,crates/{app,other}_main/out}
 cp "$top"/tests/run/* "$tree/tests/run"
 cp "$top/tests/lib.sh" "$tree/tests"
 cd "$tree"
-# scripts of some seconds
+# scripts of some seconds, of which the latter need programs
 cheap=(records proof_picture prove_and_run)
+with_programs=(memory solver_runs verified)
 
 # write NAME: the script tests/NAME.sh, of these lines
 write() {
@@ -39,8 +40,8 @@ git add .
 # runs STATUS SCRIPT..: these end so, all together; what is told is in `said`
 runs() {
   local status=0
-  rm -rf "$told"/* "$told"/.[!.]*
-  mkdir -p "$told" "$passed"
+  rm -rf "$told"
+  mkdir "$told"
   driven "${@:2}" > "$work/said" 2>&1 || status=$?
   if [[ $status != "$1" ]]; then
     fault "${*:2}: status $status, not $1"
@@ -100,14 +101,9 @@ case_failures() {
 case_full() {
   printf 'exit 0\n' | write quiet
   runs 0 quiet
-  passed=$work/file/passed
-  touch "$work/file"
-  mkdir() {
-    command mkdir "$@" 2> "$work/null" || true
-  }
-  runs 1 quiet
-  unset -f mkdir
-  passed=$work/others
+  passed=$work/nowhere runs 1 quiet
+  rm -r "$passed"
+  mkdir "$passed"
   unshare -rm true 2> "$work/null" || untried 'no namespaces here: a full folder'
   # shellcheck disable=SC2016 # for the script
   write filling <<< 'head -c 1000000 /dev/zero > "$told/fill" 2> /dev/null; exit 0'
@@ -210,7 +206,7 @@ case_keys() {
   runs 0 writes
   same 'a note of a script whose files changed' '' "$(find "$passed" -name 'writes.*')"
   # without git nothing is noted
-  rm -rf .git "$passed"
+  rm -rf .git "$passed"/*
   GIT_CEILING_DIRECTORIES=$work runs 0 good
   noted
 }
@@ -294,6 +290,11 @@ case_empty() {
 # What cheap scripts open and run of the repository is in their keys.
 case_opened() {
   only_with strace
+  if [[ -x $top/crates/drat_check_main/out/drat_check_main ]]; then
+    cheap+=("${with_programs[@]}")
+  else
+    not_tried 'no programs are built'
+  fi
   for name in "${cheap[@]}"; do
     ends 0 "$name" strace -f --seccomp-bpf -y -qq -e trace=open,openat,execve -o "$work/trace" "$top/tests/$name.sh"
     {
@@ -336,35 +337,36 @@ case_guards() {
   cd "$top"
   same 'calls without a question' '' "$(python3 -B tests/run/guards.py tests/*.sh tests/*/*.sh || true)"
   cd "$work"
-  cat > calls.sh << 'END_OF_SCRIPT'
-only_with yosys
-said=$(valgrind true)
-run() {
-  timeout 9 cadical x
-}
-case_one() {
-  c++ -c x.cpp
-  only_with c++ gcc
-  if gcc x.c; then yosys; fi
-}
-case_two() {
-  for name in picosat z3; do
-    has "$name" || continue
-    "$name"
-  done
-  has clasp && clasp x
-  # node is called
-  echo 'node' "node node"
-  picosat x | z3
-  ! minisat x
-}
+  # (indented, since these are no cases of this script)
+  sed 's/^  //' > calls.sh << 'END_OF_SCRIPT'
+  only_with yosys
+  said=$(valgrind true)
+  run() {
+    timeout 9 cadical x
+  }
+  case_one() {
+    c++ -c x.cpp
+    only_with c++ gcc
+    if gcc x.c; then yosys; fi
+  }
+  case_two() {
+    for name in picosat z3; do
+      has "$name" || continue
+      "$name"
+    done
+    has clasp && clasp x
+    # node is called
+    echo 'node' "node node"
+    picosat x | z3
+    ! minisat x
+  }
 END_OF_SCRIPT
   same 'calls without a question' 'case_one calls c++
 case_two calls minisat
 outside of functions calls valgrind
 run calls cadical' "$(python3 -B "$top/tests/run/guards.py" calls.sh | sed 's/^calls.sh: //; s/, which.*//' | sort)"
-  fails=$(grep -L lib.sh "$top"/tests/*.sh | xargs grep -l 'not tried' || true)
-  same 'scripts that say "not tried" by themselves' '' "$fails"
+  same 'what says that something is not tried, and not by lib.sh' '' "$(grep -nE '(echo|print).*[^_]not tried' "$top"/tests/*.sh "$top"/tests/*/*.sh \
+    "$top"/tests/*/*.py | grep -vE '/tests/(lib|test_run)\.sh|/wrong_bodies/' || true)"
 }
 
 try_cases
