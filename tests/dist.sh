@@ -217,8 +217,10 @@ case_build() {
   says 20 's VERIFIED UNSAT BY 1 RECEIPTS' ../tools/checked --while ./solver four.cnf
   says 0 's VERIFIED UNSAT BY 1 RECEIPTS' ../tools/pieces run four.cnf four.drat pieces
   printf '1 0\n-1 0\n' > cubes.txt
-  says 0 's VERIFIED UNSAT BY 3 RECEIPTS' sh -c '../tools/cubes split four.cnf cubes.txt parts && for part in 1 2 closing; do echo 0 > parts/$part.drat; done &&
-    ../tools/cubes check four.cnf cubes.txt parts 1 2 closing && ../tools/cubes report four.cnf cubes.txt parts'
+  mkdir parts
+  echo 0 | tee parts/1.drat parts/2.drat > parts/closing.drat
+  says 0 '' ../tools/cubes check four.cnf cubes.txt parts 1 2 closing
+  says 0 's VERIFIED UNSAT BY 3 RECEIPTS' ../tools/cubes report four.cnf cubes.txt parts
   says 0 'all answers are shown: 0 satisfiable, 1 unsatisfiable, 0 unknown' ../tools/sessions check session.icnf session.lidrup
 }
 
