@@ -172,20 +172,20 @@ follows_check four.cnf one.cnf four.drat: s VERIFIED FOLLOWS 20
 follows_check one.cnf four.cnf four.drat:  1
 minimal_check four.cnf four.drat four.models: s VERIFIED MINIMAL 0
 minimal_check four.cnf four.drat one.cnf: s NOT VERIFIED 3
-join_check four.cnf four.receipt: s VERIFIED UNSAT BY 1 RECEIPT 0
-join_check one.cnf four.receipt:  3
+join_check four.cnf four.receipt: s VERIFIED UNSAT BY 1 RECEIPTS 0
+join_check one.cnf four.receipt: s NOT VERIFIED 3
 circuit_check same one.aig other.aig --proof same.drat: s VERIFIED SAME 0
 circuit_check never one.aig --proof same.drat:  1
-session_check session.icnf session.lidrup: q 1 unsatisfiable: shown 0
-drat_cut four.cnf four.drat cut --lemmas 1: 0
+session_check session.icnf session.lidrup: all answers are shown: 0 satisfiable, 1 unsatisfiable, 0 unknown 0
+drat_cut four.cnf four.drat cut --lemmas 1: piece 1: 1 lemmas, 5 clauses live behind it 0
 lrat_to_proof four.cnf four.lrat made.proof:  0
 END
 verdicts=$(< "$work/rows")
 sed 's/: .*//' "$work/rows" > "$room/files/list"
 cat > "$room/files/calls" << 'END'
 while read -r call; do
-  line=$(../dist/$call 2> said)
-  echo "$call: $line $?"
+  lines=$(../dist/$call 2> said) && status=0 || status=$?
+  echo "$call: $(echo "$lines" | tail -n 1) $status"
 done < list
 END
 # a solver that claims each formula to be unsatisfiable
@@ -215,11 +215,13 @@ case_build() {
   export PATH=$work/.python:/usr/bin:/bin
   says 20 's VERIFIED UNSAT' ../tools/checked ./solver four.cnf
   says 0 '1 formula: 1 s VERIFIED UNSAT, 0 s VERIFIED SAT, 0 no answer, 0 rejected' ../tools/checked_all four.cnf --solver ./solver
-  says 20 's VERIFIED UNSAT BY 1 RECEIPT' ../tools/checked --while ./solver four.cnf
-  says 0 's VERIFIED UNSAT BY 1 RECEIPT' ../tools/pieces run four.cnf four.drat pieces
+  says 20 's VERIFIED UNSAT BY 1 RECEIPTS' ../tools/checked --while ./solver four.cnf
+  says 0 's VERIFIED UNSAT BY 1 RECEIPTS' ../tools/pieces run four.cnf four.drat pieces
   printf '1 0\n-1 0\n' > cubes.txt
-  says 0 's VERIFIED UNSAT BY 3 RECEIPTS' sh -c '../tools/cubes split four.cnf cubes.txt parts && for part in 1 2 closing; do echo 0 > parts/$part.drat; done &&
-    ../tools/cubes check four.cnf cubes.txt parts 1 2 closing && ../tools/cubes report four.cnf cubes.txt parts'
+  mkdir parts
+  echo 0 | tee parts/1.drat parts/2.drat > parts/closing.drat
+  says 0 '' ../tools/cubes check four.cnf cubes.txt parts 1 2 closing
+  says 0 's VERIFIED UNSAT BY 3 RECEIPTS' ../tools/cubes report four.cnf cubes.txt parts
   says 0 'all answers are shown: 0 satisfiable, 1 unsatisfiable, 0 unknown' ../tools/sessions check session.icnf session.lidrup
 }
 
