@@ -44,7 +44,8 @@ def asks(code, name):
 
 
 def calls(code, name):
-    found = re.search(rf"(?m){BEGINS}{re.escape(name)}(?=[ \t)]|$)", code)
+    by_tar = r"|\btar -\w*J" if name == "xz" else ""
+    found = re.search(rf"(?m){BEGINS}{re.escape(name)}(?=[ \t)]|$){by_tar}", code)
     return found.start() if found else None
 
 
