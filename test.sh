@@ -18,6 +18,7 @@ mkdir -p "$passed"
 tests/documents.sh
 tests/layout.sh
 tests/figures.sh
+python3 -B tests/run/guards.py tests/*.sh tests/*/*.sh
 tests/wrong_bodies.sh --records
 tests/wrong_definitions.sh --records
 

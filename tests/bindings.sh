@@ -186,7 +186,7 @@ case_programs() {
 
 # Sessions of queries by the session, by the ported checker, and by the program.
 case_sessions() {
-  only_with python3
+  only_with python3 xz
   [[ -x $work/bin/session_check ]] || untried 'session_check is not built'
   mkdir "$work/judged"
   tar -xJf "$top/tests/sessions/judged.tar.xz" -C "$work/judged"

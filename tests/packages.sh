@@ -131,7 +131,7 @@ case_action() {
 
 # The Debian source package and what is built from it, and the verdict of lintian on both.
 case_debian() {
-  only_with dpkg-buildpackage dh
+  only_with dpkg-buildpackage dh xz
   checkout "$work/debian/cefindrato"
   git init -q "$work/debian/cefindrato"
   before=$(cd "$work/debian/cefindrato" && find . -type f | sort)

@@ -68,6 +68,7 @@ case_pipe() {
 }
 
 case_judged() {
+  only_with xz
   mkdir judged
   tar -xJf "$top/tests/sessions/judged.tar.xz" -C judged
   for way in alone told; do

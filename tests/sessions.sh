@@ -581,6 +581,7 @@ case_outputs() {
 }
 
 case_judged() {
+  only_with xz
   mkdir judged
   tar -xJf "$top/tests/sessions/judged.tar.xz" -C judged
   python3 -B "$top/tests/sessions/judged.py" "$top/tools/sessions" judged || wrong=1

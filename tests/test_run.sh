@@ -2,6 +2,8 @@
 # How ./test.sh runs scripts (tests/run): what fails makes it fail, also where nothing can be written; what was not tried is told and leaves
 # no note; a script runs again where something changed that it depends on, and else not. And that lists which become empty are noticed,
 # that the keys of cheap scripts have all files that these open, and that each tool that not every machine has may be missing.
+# needs: test.sh tests/run tests/figures.sh tests/figures.txt tests/weak_edits.sh tests/layout.sh tests/records.sh tests/proof_picture.sh
+# needs: tests/prove_and_run.sh tests/memory.sh tests/solver_runs.sh tests/verified.sh
 set -euo pipefail
 . "$(dirname "$0")/lib.sh"
 tree=$work/tree told=$work/told passed=$work/passed
@@ -222,7 +224,7 @@ case_archive() {
   rm "$work/archive"
   echo '# more' >> tests/last.sh
   runs 0 last good library
-  tells 'tests/library.sh has passed on this machine over the same files'
+  grep -q 'library.sh has passed' "$work/said" || fault 'the library is made again'
   write library <<< 'exit 1'
   runs 1 last library
 }
@@ -334,9 +336,6 @@ case_missing() {
 
 # What a script calls that not each machine has stands behind a question for it.
 case_guards() {
-  cd "$top"
-  same 'calls without a question' '' "$(python3 -B tests/run/guards.py tests/*.sh tests/*/*.sh || true)"
-  cd "$work"
   # (indented, since these are no cases of this script)
   sed 's/^  //' > calls.sh << 'END_OF_SCRIPT'
   only_with yosys
@@ -359,14 +358,14 @@ case_guards() {
     echo 'node' "node node"
     picosat x | z3
     ! minisat x
+    echo 'z3: not tried'
   }
 END_OF_SCRIPT
   same 'calls without a question' 'case_one calls c++
 case_two calls minisat
+it says itself that something is not tried
 outside of functions calls valgrind
 run calls cadical' "$(python3 -B "$top/tests/run/guards.py" calls.sh | sed 's/^calls.sh: //; s/, which.*//' | sort)"
-  same 'what says that something is not tried, and not by lib.sh' '' "$(grep -nE '(echo|print).*[^_]not tried' "$top"/tests/*.sh "$top"/tests/*/*.sh \
-    "$top"/tests/*/*.py | grep -vE '/tests/(lib|test_run)\.sh|/wrong_bodies/' || true)"
 }
 
 try_cases

@@ -4,7 +4,8 @@
 
 A command of optional.txt that a script calls has to be asked for by `has`, `only_with`, `type -P` or `command -v`: in a case before the
 call in the case, or before all cases, and in another function anywhere in the script. A name is a command where a command begins; words
-in single quotes and in texts that stand in the script are none. A script that writes a program of that name calls its own.
+in single quotes and in texts that stand in the script are none. A script that writes a program of that name calls its own. And no script
+says by an `echo` of its own that something is not tried.
 """
 
 import os
@@ -44,7 +45,8 @@ def asks(code, name):
 
 
 def calls(code, name):
-    found = re.search(rf"(?m){BEGINS}{re.escape(name)}(?=[ \t)]|$)", code)
+    by_tar = r"|\btar -\w*J" if name == "xz" else ""
+    found = re.search(rf"(?m){BEGINS}{re.escape(name)}(?=[ \t)]|$){by_tar}", code)
     return found.start() if found else None
 
 
@@ -73,6 +75,10 @@ def main(paths):
         for name, where in unguarded(path):
             print(f"{path}: {where} calls {name}, which not every machine has, and does not ask for it")
             wrong = 1
+        with open(path, encoding="utf-8") as file:
+            if os.path.basename(path) not in ("lib.sh", "test_run.sh") and re.search(r"(?m)^[^#\n]*\b(?:echo|printf)\b.*\bnot tried", file.read()):
+                print(f"{path}: it says itself that something is not tried, which tests/lib.sh says")
+                wrong = 1
     return wrong
 
 
