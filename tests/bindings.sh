@@ -150,9 +150,36 @@ case_project() {
   ./project_alone
 }
 
-# Rust: the crate's own tests in a copy, and a project that names it by its path, which runs without the library's folder.
+# Rust by each cargo on the path, of which one may be the distribution's, for the version that Cargo.toml names.
 case_rust() {
   only_with cargo pkg-config
+  mapfile -t cargos < <(type -aP cargo | xargs -n 1 dirname | xargs -n 1 realpath | sort -u)
+  for folder in "${cargos[@]}"; do
+    # (in a condition, commands that fail would be passed over)
+    set +e
+    (
+      set -e
+      PATH=$folder:$PATH
+      of_cargo "$work/by$folder"
+      exit "$wrong"
+    )
+    status=$?
+    set -e
+    ((status == 0)) || fault "by $folder/cargo"
+  done
+  if cargo clippy --version > said 2>&1; then
+    cp -R "$top/bindings/rust" "$work/linted"
+    CARGO_TARGET_DIR=$work/lints quiet cargo clippy -q --manifest-path "$work/linted/Cargo.toml" -- -D clippy::incompatible_msrv
+  else
+    echo 'clippy is not installed: the version of Rust that is needed: not tried'
+  fi
+}
+
+# of_cargo FOLDER: the crate's own tests in a copy, and a project that names it by its path, which runs without the library's folder.
+of_cargo() {
+  local work=$1
+  mkdir -p "$work"
+  cd "$work"
   cp -R "$top/bindings/rust" "$work/crate"
   export CARGO_TARGET_DIR=$work/target CARGO_NET_OFFLINE=true
   quiet cargo test -q --manifest-path "$work/crate/Cargo.toml"
@@ -166,7 +193,7 @@ case_rust() {
   CEFINDRATO_LIBRARY_FOLDER=$prefix/lib CEFINDRATO_SHARED=1 quiet cargo build -q --manifest-path "$work/rust_project/Cargo.toml"
   LD_LIBRARY_PATH=$prefix/lib "$work/target/debug/project"
   if PKG_CONFIG_PATH=$work/none PKG_CONFIG_LIBDIR=$work/none cargo build -q --manifest-path "$work/rust_project/Cargo.toml" > said 2>&1 ||
-    ! grep -q 'libcefindrato is not found: install it' said; then
+    ! grep -q '^  libcefindrato is not found: install it' said || grep -q panicked said; then
     fault "without a library: $(cat said)"
   fi
 }

@@ -393,11 +393,26 @@ case_no_query() {
   cp none.* recorded
   echo none > recorded/sessions.index
   ends 3 'no answer was seen' sessions check recorded
+  # a program that leaves this record, with a layer that sees nothing
+  mkdir run run/bin run/lib
+  cp "$top/tools/verified" "$top/tools/sessions" run/bin
+  cp -L bin/*_check run/bin
+  cc -shared -o run/lib/libcefindrato_ipasir.so -x c /dev/null
+  printf '#!/bin/sh\ncp recorded/* "${SESSION_RECORD%%/*}"\n' > program
+  chmod +x program
+  ends 3 'cefindrato: no answer was seen' run/bin/verified --run ./program
   # one of two sessions has answers
   cp two.icnf recorded/two.icnf
   cp two.idrup recorded/two.idrup
   echo two >> recorded/sessions.index
   ends 0 "$all, in 2 sessions" sessions check recorded
+  ends 0 'cefindrato: 4 answers, all shown: 1 satisfiable, 2 unsatisfiable, 1 unknown' run/bin/verified --run ./program
+  edit two.icnf 's/^v -2 0/v 2 0/'
+  cp changed.icnf recorded/two.icnf
+  ends 1 'cefindrato: two.icnf: query 1 of line 4: its model does not have all that was told in line 6 (proof: line 5)
+cefindrato: two.icnf: 1 of 4 answers are not shown
+cefindrato: 1 of 2 sessions have answers that are not shown
+cefindrato: not all answers are shown' run/bin/verified --run ./program
 }
 
 # Deletions are advice: the only lemma goes before the core that needs it. With it kept the answer is shown.

@@ -125,7 +125,8 @@ static inline cefindrato_drat_answer cefindrato_check_drat(const void *cnf, size
                                  text ? (uint8_t *)text : no_room, text_size);
 }
 
-/* Checks a solver's answer that a formula is satisfiable, its `v` lines or its literals, against a DIMACS text. */
+/* Checks a solver's answer that a formula is satisfiable, its line `s SATISFIABLE` and its `v` lines, or literals alone, against a DIMACS
+ * text. */
 static inline cefindrato_model_answer cefindrato_check_model(const void *cnf, size_t cnf_len, const void *answer,
                                                              size_t answer_len, char *text, size_t text_size) {
     uint8_t no_room[1];

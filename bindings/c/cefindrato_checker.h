@@ -1,8 +1,9 @@
 /* The ported checker of varisat's proofs, step by step: clauses, lemmas that follow by unit propagation, deletions, models, and queries
  * under assumptions.
  *
- * Literals are DIMACS numbers: from 1 to 268435456, and their negations. A lemma or a failed core names the clauses that it needs by
- * their hashes. A checker belongs to one thread at a time. */
+ * Literals are DIMACS numbers: from 1 to 268435456, and their negations. A checker takes 24 bytes for each number up to its greatest
+ * variable: number variables from 1 on, without gaps. A lemma or a failed core names the clauses that it needs by their hashes. A checker
+ * belongs to one thread at a time. */
 #ifndef CEFINDRATO_CHECKER_H
 #define CEFINDRATO_CHECKER_H
 #include "cefindrato.h"
@@ -53,7 +54,7 @@ enum {
     CEFINDRATO_CHECKER_IDS_EXHAUSTED = 27,                  /* no number is left for a clause */
     CEFINDRATO_CHECKER_COUNT_EXHAUSTED = 28,                /* the same clause was added as often as can be counted */
     CEFINDRATO_CHECKER_STEPS_EXHAUSTED = 29,                /* no number is left for a step */
-    CEFINDRATO_CHECKER_NONE = 30,                           /* the checker was not begun, or it has ended */
+    CEFINDRATO_CHECKER_NONE = 30,                           /* the checker was not begun, or it has ended, or its pointer is null */
     CEFINDRATO_CHECKER_BEGUN = 31,                          /* the checker was begun and has not ended */
     CEFINDRATO_CHECKER_NO_LITERAL = 32,                     /* a number is that of no literal */
     CEFINDRATO_CHECKER_NO_STEP = 33,                        /* a number is that of no kind of step */
@@ -77,22 +78,41 @@ cefindrato_checker_answer cefindrato_checker_check_step(cefindrato_checker *chec
  * since a core need not be accepted any more. */
 bool cefindrato_checker_unsat(cefindrato_checker *checker);
 
-/* The calls for callers, beside `cefindrato_checker_begin`, `cefindrato_checker_end` and `cefindrato_checker_unsat`: a list may be null
- * where its length is 0. If it is null and its length is not 0, the status is CEFINDRATO_NOT_RUN, and the cause 0.
+/* The calls for callers: a list may be null where its length is 0. If it is null and its length is not 0, the status is
+ * CEFINDRATO_NOT_RUN, and the cause 0. If the checker is null, the cause is CEFINDRATO_CHECKER_NONE.
  *
- * A rejected call changes no clause and no assumption. A step is counted all the same, variables of a rejected lemma or core are known
- * to later models, and a rejected deletion stands between a lemma and the next deletion. If there was no memory within a check, the
- * checker has failed, and each later call is CEFINDRATO_NOT_RUN. */
+ * A rejected call changes no clause and no assumption. A step is counted all the same; variables of a rejected lemma are known to later
+ * models, unless it is a tautology; and a rejected deletion stands between a lemma and the next deletion, unless the cause is
+ * CEFINDRATO_CHECKER_TAUTOLOGY, CEFINDRATO_CHECKER_NOT_SATISFIED or CEFINDRATO_CHECKER_NOT_SUBSUMED. If there was no memory within a
+ * check, the checker has failed, and a later call is CEFINDRATO_NOT_RUN, or CEFINDRATO_OUT_OF_MEMORY while there is none for its list. */
 
-static inline cefindrato_checker_answer cefindrato_null_literals(void) {
-    const cefindrato_checker_answer answer = {CEFINDRATO_NOT_RUN, 0, 0};
+static inline cefindrato_checker_answer cefindrato_checker_unasked(const cefindrato_checker *checker) {
+    cefindrato_checker_answer answer = {CEFINDRATO_NOT_RUN, 0, 0};
+    if (!checker)
+        answer.cause = CEFINDRATO_CHECKER_NONE;
     return answer;
 }
 
+/* Begins a checker without clauses. */
+static inline cefindrato_checker_answer cefindrato_begin_checker(cefindrato_checker *checker) {
+    if (!checker)
+        return cefindrato_checker_unasked(checker);
+    return cefindrato_checker_begin(checker);
+}
+
+/* Ends a checker, if there is one, and frees its memory. */
+static inline void cefindrato_end_checker(cefindrato_checker *checker) {
+    if (checker)
+        cefindrato_checker_end(checker);
+}
+
+/* Whether unsatisfiability is recorded, as cefindrato_checker_unsat tells. */
+static inline bool cefindrato_unsat(cefindrato_checker *checker) { return checker && cefindrato_checker_unsat(checker); }
+
 /* Adds an input clause. It is no step. */
 static inline cefindrato_checker_answer cefindrato_add_clause(cefindrato_checker *checker, const int32_t *clause, size_t clause_len) {
-    if (!clause && clause_len)
-        return cefindrato_null_literals();
+    if (!checker || (!clause && clause_len))
+        return cefindrato_checker_unasked(checker);
     return cefindrato_checker_add_clause(checker, cefindrato_numbers(clause), clause_len);
 }
 
@@ -105,8 +125,8 @@ static inline cefindrato_checker_answer cefindrato_add_clause(cefindrato_checker
  * literals or more, and no negation of a unit clause: then some assignment satisfies the clauses, and makes the model true. */
 static inline cefindrato_checker_answer cefindrato_check_step(cefindrato_checker *checker, int kind, const int32_t *literals,
                                                               size_t literals_len, const uint64_t *hashes, size_t hashes_len) {
-    if ((!literals && literals_len) || (!hashes && hashes_len))
-        return cefindrato_null_literals();
+    if (!checker || (!literals && literals_len) || (!hashes && hashes_len))
+        return cefindrato_checker_unasked(checker);
     return cefindrato_checker_check_step(checker, kind < 0 || kind > CEFINDRATO_STEP_END ? 0 : (uint8_t)kind,
                                          cefindrato_numbers(literals), literals_len, cefindrato_ids(hashes), hashes_len);
 }

@@ -26,7 +26,7 @@ enum {
     CEFINDRATO_BOTH_SIGNS = 6,        /* the model has both signs of a variable */
     CEFINDRATO_MISSES_ASSUMPTION = 7, /* the model does not have an assumption */
     CEFINDRATO_MISSES_CLAUSE = 8,     /* the model has no literal of a clause that was given */
-    CEFINDRATO_NO_SESSION = 9,        /* the session was not begun, or it has ended */
+    CEFINDRATO_NO_SESSION = 9,        /* the session was not begun, or it has ended, or its pointer is null */
     CEFINDRATO_BEGUN = 10,            /* the session was begun and has not ended */
     CEFINDRATO_NO_LITERAL = 11        /* a number is that of no literal */
 };
@@ -49,19 +49,34 @@ cefindrato_session_answer cefindrato_session_fails(cefindrato_session *session, 
 cefindrato_session_answer cefindrato_session_satisfies(cefindrato_session *session, const int32_t *assumed, size_t assumed_len,
                                                        const int32_t *model, size_t model_len);
 
-/* The calls for callers, beside `cefindrato_session_begin` and `cefindrato_session_end`: a list may be null where its length is 0. If it
- * is null and its length is not 0, the status is CEFINDRATO_NOT_RUN, and the cause 0. */
+/* The calls for callers: a list may be null where its length is 0. If it is null and its length is not 0, the status is
+ * CEFINDRATO_NOT_RUN, and the cause 0. If the session is null, the cause is CEFINDRATO_NO_SESSION. */
 
-static inline cefindrato_session_answer cefindrato_null_list(void) {
-    const cefindrato_session_answer answer = {CEFINDRATO_NOT_RUN, 0, 0};
+static inline cefindrato_session_answer cefindrato_session_unasked(const cefindrato_session *session) {
+    cefindrato_session_answer answer = {CEFINDRATO_NOT_RUN, 0, 0};
+    if (!session)
+        answer.cause = CEFINDRATO_NO_SESSION;
     return answer;
+}
+
+/* Begins a session without clauses. */
+static inline cefindrato_session_answer cefindrato_begin_session(cefindrato_session *session) {
+    if (!session)
+        return cefindrato_session_unasked(session);
+    return cefindrato_session_begin(session);
+}
+
+/* Ends a session, if there is one, and frees its memory. */
+static inline void cefindrato_end_session(cefindrato_session *session) {
+    if (session)
+        cefindrato_session_end(session);
 }
 
 /* Adds a clause of the application, under an id that names none. */
 static inline cefindrato_session_answer cefindrato_give(cefindrato_session *session, uint64_t id, const int32_t *clause,
                                                         size_t clause_len) {
-    if (!clause && clause_len)
-        return cefindrato_null_list();
+    if (!session || (!clause && clause_len))
+        return cefindrato_session_unasked(session);
     return cefindrato_session_give(session, id, cefindrato_numbers(clause), clause_len);
 }
 
@@ -70,15 +85,15 @@ static inline cefindrato_session_answer cefindrato_give(cefindrato_session *sess
  * later can contradict it. */
 static inline cefindrato_session_answer cefindrato_derive(cefindrato_session *session, uint64_t id, const int32_t *lemma,
                                                           size_t lemma_len, const uint64_t *hints, size_t hints_len) {
-    if ((!lemma && lemma_len) || (!hints && hints_len))
-        return cefindrato_null_list();
+    if (!session || (!lemma && lemma_len) || (!hints && hints_len))
+        return cefindrato_session_unasked(session);
     return cefindrato_session_derive(session, id, cefindrato_numbers(lemma), lemma_len, cefindrato_ids(hints), hints_len);
 }
 
 /* Deletes the clauses of these ids; an id that names none is ignored. A model still has to satisfy a clause that was given. */
 static inline cefindrato_session_answer cefindrato_delete(cefindrato_session *session, const uint64_t *ids, size_t ids_len) {
-    if (!ids && ids_len)
-        return cefindrato_null_list();
+    if (!session || (!ids && ids_len))
+        return cefindrato_session_unasked(session);
     return cefindrato_session_delete(session, cefindrato_ids(ids), ids_len);
 }
 
@@ -88,8 +103,8 @@ static inline cefindrato_session_answer cefindrato_delete(cefindrato_session *se
 static inline cefindrato_session_answer cefindrato_fails(cefindrato_session *session, const int32_t *assumed, size_t assumed_len,
                                                          const int32_t *core, size_t core_len, const uint64_t *hints,
                                                          size_t hints_len) {
-    if ((!assumed && assumed_len) || (!core && core_len) || (!hints && hints_len))
-        return cefindrato_null_list();
+    if (!session || (!assumed && assumed_len) || (!core && core_len) || (!hints && hints_len))
+        return cefindrato_session_unasked(session);
     return cefindrato_session_fails(session, cefindrato_numbers(assumed), assumed_len, cefindrato_numbers(core), core_len,
                                     cefindrato_ids(hints), hints_len);
 }
@@ -98,8 +113,8 @@ static inline cefindrato_session_answer cefindrato_fails(cefindrato_session *ses
  * satisfies the clauses that were given so far. The model needs a literal of each of them, and need not be total. */
 static inline cefindrato_session_answer cefindrato_satisfies(cefindrato_session *session, const int32_t *assumed, size_t assumed_len,
                                                              const int32_t *model, size_t model_len) {
-    if ((!assumed && assumed_len) || (!model && model_len))
-        return cefindrato_null_list();
+    if (!session || (!assumed && assumed_len) || (!model && model_len))
+        return cefindrato_session_unasked(session);
     return cefindrato_session_satisfies(session, cefindrato_numbers(assumed), assumed_len, cefindrato_numbers(model), model_len);
 }
 

@@ -12,7 +12,7 @@ int main(void) {
     cefindrato_checker checker = {NULL, false};
     const int32_t first[] = {1, 2}, second[] = {1, -2, 3}, lemma[] = {1, 3}, assumed[] = {-1, -3}, model[] = {1, -3};
     uint64_t hashes[2], core_hash;
-    if (cefindrato_checker_begin(&checker).status != CEFINDRATO_VERIFIED)
+    if (cefindrato_begin_checker(&checker).status != CEFINDRATO_VERIFIED)
         return 1;
     /* the application's clauses, whose hashes the solver keeps */
     cefindrato_add_clause(&checker, first, 2);
@@ -27,6 +27,6 @@ int main(void) {
            told(cefindrato_check_step(&checker, CEFINDRATO_STEP_FAILED_ASSUMPTIONS, assumed, 2, &core_hash, 1)));
     cefindrato_check_step(&checker, CEFINDRATO_STEP_ASSUMPTIONS, assumed + 1, 1, NULL, 0);
     printf("satisfiable under -3: %s\n", told(cefindrato_check_step(&checker, CEFINDRATO_STEP_MODEL, model, 2, NULL, 0)));
-    cefindrato_checker_end(&checker);
+    cefindrato_end_checker(&checker);
     return 0;
 }

@@ -12,7 +12,7 @@ int main(void) {
     cefindrato_session session = {NULL, false};
     const int32_t first[] = {1, 2}, second[] = {-1}, lemma[] = {2}, assumed[] = {-2}, model[] = {-1, 2};
     const uint64_t hints[] = {2, 1}, core_hints[] = {3};
-    if (cefindrato_session_begin(&session).status != CEFINDRATO_VERIFIED)
+    if (cefindrato_begin_session(&session).status != CEFINDRATO_VERIFIED)
         return 1;
     /* the application's clauses, under ids */
     cefindrato_give(&session, 1, first, 2);
@@ -21,6 +21,6 @@ int main(void) {
     cefindrato_derive(&session, 3, lemma, 1, hints, 2);
     printf("unsatisfiable under -2: %s\n", told(cefindrato_fails(&session, assumed, 1, assumed, 1, core_hints, 1)));
     printf("satisfiable: %s\n", told(cefindrato_satisfies(&session, NULL, 0, model, 2)));
-    cefindrato_session_end(&session);
+    cefindrato_end_session(&session);
     return 0;
 }

@@ -236,12 +236,84 @@ static void expect_answers(cefindrato_checker *checker) {
     expect("model after", step(checker, CEFINDRATO_STEP_MODEL, pair, 2), 3, CEFINDRATO_CHECKER_MODEL_AFTER_UNSAT, 31);
 }
 
+/* Each call of a null checker answers as one that was not begun, whatever its lists are. */
+static void expect_no_checker(void) {
+    static const int32_t one[] = {1};
+    expect("begin of null", cefindrato_begin_checker(NULL), 2, CEFINDRATO_CHECKER_NONE, 0);
+    expect("add to null", cefindrato_add_clause(NULL, one, 1), 2, CEFINDRATO_CHECKER_NONE, 0);
+    expect("add to null, null clause", cefindrato_add_clause(NULL, NULL, 1), 2, CEFINDRATO_CHECKER_NONE, 0);
+    expect("step of null", step(NULL, CEFINDRATO_STEP_ASSUMPTIONS, one, 1), 2, CEFINDRATO_CHECKER_NONE, 0);
+    if (cefindrato_unsat(NULL))
+        wrong = 1;
+    cefindrato_end_checker(NULL);
+}
+
+/* The calls of the header begin, ask and end as those of the library. */
+static void expect_begin_and_end(void) {
+    cefindrato_checker checker = {NULL, false};
+    expect("begin", cefindrato_begin_checker(&checker), 0, 0, 0);
+    expect("begin twice", cefindrato_begin_checker(&checker), 2, CEFINDRATO_CHECKER_BEGUN, 0);
+    if (cefindrato_unsat(&checker))
+        wrong = 1;
+    expect("empty", cefindrato_add_clause(&checker, NULL, 0), 0, 0, 0);
+    if (!cefindrato_unsat(&checker))
+        wrong = 1;
+    cefindrato_end_checker(&checker);
+    expect("ended", cefindrato_add_clause(&checker, NULL, 0), 2, CEFINDRATO_CHECKER_NONE, 0);
+    cefindrato_end_checker(&checker);
+}
+
+/* What a rejected step leaves behind it, over the clauses `1 2` and `1 -2`. */
+static void expect_traces(void) {
+    static const int32_t seven[] = {1, -2, 7}, both_signs[] = {9, -9}, nine[] = {1, -2, 9}, eight[] = {8}, one[] = {1};
+    static const int32_t wide[] = {1, 2}, other[] = {1, -2}, unknown[] = {3, 4}, tautology[] = {3, -3};
+    const uint64_t hashes[] = {cefindrato_clause_hash(wide, 2), cefindrato_clause_hash(other, 2)};
+    const struct {
+        int kind, cause, next;
+        const int32_t *literals;
+        size_t len;
+    } deletions[] = {
+        {CEFINDRATO_STEP_DELETE_SATISFIED, CEFINDRATO_CHECKER_TAUTOLOGY, 0, tautology, 2},
+        {CEFINDRATO_STEP_DELETE_SATISFIED, CEFINDRATO_CHECKER_NOT_SATISFIED, 0, unknown, 2},
+        {CEFINDRATO_STEP_DELETE_SIMPLIFIED, CEFINDRATO_CHECKER_NOT_SUBSUMED, 0, unknown, 2},
+        {CEFINDRATO_STEP_DELETE_REDUNDANT, CEFINDRATO_CHECKER_DELETE_UNIT_OR_EMPTY, CEFINDRATO_CHECKER_NOT_SUBSUMED, eight, 1},
+        {CEFINDRATO_STEP_DELETE_REDUNDANT, CEFINDRATO_CHECKER_DELETE_UNKNOWN, CEFINDRATO_CHECKER_NOT_SUBSUMED, unknown, 2},
+        {CEFINDRATO_STEP_DELETE_REDUNDANT, CEFINDRATO_CHECKER_DELETE_REDUNDANT_IS_IRREDUNDANT, CEFINDRATO_CHECKER_NOT_SUBSUMED, wide, 2},
+    };
+    size_t at;
+    cefindrato_checker checker = {NULL, false};
+    expect("begin", cefindrato_begin_checker(&checker), 0, 0, 0);
+    cefindrato_add_clause(&checker, wide, 2);
+    cefindrato_add_clause(&checker, other, 2);
+    expect("unknown before", step(&checker, CEFINDRATO_STEP_MODEL, seven, 3), 3, CEFINDRATO_CHECKER_UNKNOWN_VAR, 1);
+    expect("rejected lemma", step(&checker, CEFINDRATO_STEP_AT_CLAUSE, seven, 3), 3, CEFINDRATO_CHECKER_AT_CHECK_FAILED, 2);
+    expect("known behind it", step(&checker, CEFINDRATO_STEP_MODEL, seven, 3), 0, 0, 0);
+    expect("tautology", step(&checker, CEFINDRATO_STEP_AT_CLAUSE, both_signs, 2), 3, CEFINDRATO_CHECKER_TAUTOLOGY, 4);
+    expect("unknown behind it", step(&checker, CEFINDRATO_STEP_MODEL, nine, 3), 3, CEFINDRATO_CHECKER_UNKNOWN_VAR, 5);
+    expect("core", step(&checker, CEFINDRATO_STEP_FAILED_ASSUMPTIONS, nine + 2, 1), 3, CEFINDRATO_CHECKER_NOT_ASSUMED, 6);
+    expect("unknown behind the core", step(&checker, CEFINDRATO_STEP_MODEL, nine, 3), 3, CEFINDRATO_CHECKER_UNKNOWN_VAR, 7);
+    cefindrato_end_checker(&checker);
+    for (at = 0; at < LEN(deletions); at++) {
+        expect("begin", cefindrato_begin_checker(&checker), 0, 0, 0);
+        cefindrato_add_clause(&checker, wide, 2);
+        cefindrato_add_clause(&checker, other, 2);
+        expect("lemma", cefindrato_check_step(&checker, CEFINDRATO_STEP_AT_CLAUSE, one, 1, hashes, 2), 0, 0, 0);
+        expect("rejected", step(&checker, deletions[at].kind, deletions[at].literals, deletions[at].len), 3, deletions[at].cause, 2);
+        expect("behind it", step(&checker, CEFINDRATO_STEP_DELETE_SIMPLIFIED, wide, 2), deletions[at].next ? 3 : 0, deletions[at].next,
+               deletions[at].next ? 3 : 0);
+        cefindrato_end_checker(&checker);
+    }
+}
+
 int main(int argc, char **argv) {
     cefindrato_checker checkers[2];
     memset(checkers, 0, sizeof checkers);
     play_all(play, CALLS, argc > 1 ? atoi(argv[1]) : 5);
     expect("begin", cefindrato_checker_begin(&checkers[0]), 0, 0, 0);
     expect("begin another", cefindrato_checker_begin(&checkers[1]), 0, 0, 0);
+    expect_no_checker();
+    expect_begin_and_end();
+    expect_traces();
     expect_no_calls(&checkers[0]);
     expect_answers(&checkers[1]);
     cefindrato_checker_end(&checkers[1]);

@@ -164,12 +164,38 @@ static void expect_answers(cefindrato_session *session) {
     expect("no model", cefindrato_satisfies(session, NULL, 0, largest, 1), 3, CEFINDRATO_MISSES_CLAUSE, 1);
 }
 
+/* Each call of a null session answers as one that was not begun, whatever its lists are. */
+static void expect_no_session(void) {
+    static const int32_t one[] = {1};
+    static const uint64_t id[] = {1};
+    expect("begin of null", cefindrato_begin_session(NULL), 2, CEFINDRATO_NO_SESSION, 0);
+    expect("give to null", cefindrato_give(NULL, 1, one, 1), 2, CEFINDRATO_NO_SESSION, 0);
+    expect("give to null, null clause", cefindrato_give(NULL, 1, NULL, 1), 2, CEFINDRATO_NO_SESSION, 0);
+    expect("derive of null", cefindrato_derive(NULL, 1, one, 1, id, 1), 2, CEFINDRATO_NO_SESSION, 0);
+    expect("delete of null", cefindrato_delete(NULL, id, 1), 2, CEFINDRATO_NO_SESSION, 0);
+    expect("fails of null", cefindrato_fails(NULL, one, 1, one, 1, id, 1), 2, CEFINDRATO_NO_SESSION, 0);
+    expect("satisfies of null", cefindrato_satisfies(NULL, one, 1, one, 1), 2, CEFINDRATO_NO_SESSION, 0);
+    cefindrato_end_session(NULL);
+}
+
+/* The calls of the header begin and end as those of the library. */
+static void expect_begin_and_end(void) {
+    cefindrato_session session = {NULL, false};
+    expect("begin", cefindrato_begin_session(&session), 0, 0, 0);
+    expect("begin twice", cefindrato_begin_session(&session), 2, CEFINDRATO_BEGUN, 0);
+    cefindrato_end_session(&session);
+    expect("ended", cefindrato_give(&session, 1, NULL, 0), 2, CEFINDRATO_NO_SESSION, 0);
+    cefindrato_end_session(&session);
+}
+
 int main(int argc, char **argv) {
     cefindrato_session sessions[2];
     memset(sessions, 0, sizeof sessions);
     play_all(play, CALLS, argc > 1 ? atoi(argv[1]) : 6);
     expect("begin", cefindrato_session_begin(&sessions[0]), 0, 0, 0);
     expect("begin another", cefindrato_session_begin(&sessions[1]), 0, 0, 0);
+    expect_no_session();
+    expect_begin_and_end();
     expect_answers(&sessions[0]);
     expect_answers(&sessions[1]);
     cefindrato_session_end(&sessions[1]);

@@ -3,10 +3,12 @@
 test.py CNF LRAT
 """
 
+import array
 import concurrent.futures
 import doctest
 import mmap
 import os
+import resource
 import subprocess
 import sys
 import tempfile
@@ -50,6 +52,151 @@ def of_models():
     assert cefindrato.check_model(b"1 2 0", said) == (True, None, None)
     assert cefindrato.check_model(b"1 2 0\n-1 -2 0\n", said) == (False, 2, 2)
     assert refused(cefindrato.check_model, b"1 x", said) == "formula: line 1: bad number"
+
+
+class Index:
+    """An int as numpy has it."""
+
+    def __init__(self, number):
+        self.number = number
+
+    def __index__(self):
+        return self.number
+
+    def __repr__(self):
+        return f"Index({self.number})"
+
+
+def names(wanted, call, *arguments):
+    """A call has to be a ValueError that says this."""
+    try:
+        answer = call(*arguments)
+    except ValueError as why:
+        assert str(why).startswith(wanted), why
+        return
+    raise AssertionError(f"{call.__name__} of {arguments!r}: {answer!r}")
+
+
+def of_numbers():
+    """What is an int for `operator.index` is a number, and bools, bytes, texts and rows of a table are none. A list may be anything that
+    gives numbers, and what it raises itself comes through."""
+    rows = [[1, 2], [3, 4]]
+    with cefindrato.Session() as session, cefindrato.Checker() as checker:
+        session.give(Index(1), [Index(1), Index(-2)])
+        session.give(2, array.array("i", [2]))
+        session.derive(Index(3), (Index(it) for it in (1,)), {1: None, 2: None})
+        session.fails([Index(-1)], [-1], [Index(3)])
+        checker.add_clause([Index(1), 2])
+        checker.check_step(cefindrato.Step.AT_CLAUSE, [1, 2, 3], [Index(cefindrato.clause_hash([1, 2]))])
+        calls = [
+            (lambda it: session.give(9, it), "the clause"),
+            (lambda it: session.derive(9, it, []), "the lemma"),
+            (lambda it: session.fails(it, []), "the assumptions"),
+            (lambda it: session.fails([1], it), "the core"),
+            (lambda it: session.satisfies([], it), "the model"),
+            (checker.add_clause, "the clause"),
+            (lambda it: checker.check_step(cefindrato.Step.MODEL, it), "the step"),
+            (cefindrato.clause_hash, "the clause"),
+        ]
+        for call, what in calls:
+            names(f"True is no literal, in {what} [True, 2]: literals are whole numbers", call, [True, 2])
+            names(f"[1, 2] is no literal, in {what} [[1, 2], [3, 4]]", call, rows)
+            names(f"1.0 is no literal, in {what} [1.0]", call, [1.0])
+            names(f"'1' is no literal, in {what} ['1']", call, ["1"])
+            names(f"{what} is no list of literals: '12'", call, "12")
+            names(f"{what} is no list of literals: b'\\x01\\x02'", call, b"\x01\x02")
+            names(f"{what} is no list of literals: None", call, None)
+            try:
+                call(1 // (it - 1) for it in (2, 1))
+            except ZeroDivisionError:
+                continue
+            raise AssertionError("what the caller's generator raises is hidden")
+        for call in (session.delete, lambda it: session.derive(9, [1], it), lambda it: checker.check_step(cefindrato.Step.END, [], it)):
+            names("True is no whole number, in the list [True]", call, [True])
+            names("the list is no list of whole numbers: b'1'", call, b"1")
+            assert refused(call, [2**64]).endswith("has more than 64 bits or a sign")
+        names("False is no whole number", session.give, False, [1])
+        # the session is as it was
+        assert refused(session.satisfies, [], [1]) == "the model has no literal of clause 2"
+        session.satisfies([], [2, 1])
+    for it in 0, 2**28 + 1, -(2**40):
+        names(f"{it} is no literal, in the clause [{it}]", cefindrato.clause_hash, [it])
+    assert cefindrato.clause_hash([Index(1), -2]) == cefindrato.clause_hash([1]) ^ cefindrato.clause_hash([-2])
+
+
+def of_generators():
+    """What a caller's own generator raises is not taken for a fault of its list, not even a TypeError."""
+
+    def raising(*given):
+        yield from given
+        raise TypeError("the caller's own")
+
+    calls = [
+        lambda: cefindrato.check_unsat(raising([1]), ["0"]),
+        lambda: cefindrato.check_unsat([raising(1)], ["0"]),
+        lambda: cefindrato.check_unsat([[1]], raising("0")),
+        lambda: cefindrato.check_sat([[1]], raising(1)),
+        lambda: cefindrato.clause_hash(raising(1)),
+        lambda: cefindrato.Session().give(1, raising(1)),
+    ]
+    for call in calls:
+        try:
+            answer = call()
+        except TypeError as why:
+            assert str(why) == "the caller's own", why
+            continue
+        raise AssertionError(answer)
+
+
+def of_threads():
+    """Four threads in one object: one waits for the other, and all that each gave is there. Without that this process ends."""
+    with cefindrato.Session() as session, cefindrato.Checker() as checker, concurrent.futures.ThreadPoolExecutor(4) as pool:
+
+        def gives(number):
+            for at in range(5000):
+                variable = 5000 * number + at + 1
+                session.give(variable, [variable])
+                checker.add_clause([variable, 1])
+                checker.unsat()
+
+        for _ in pool.map(gives, range(4)):
+            pass
+        session.satisfies([], range(1, 20001))
+        assert refused(session.satisfies, [], range(1, 20000)).startswith("the model has no literal of clause ")
+        checker.check_step(cefindrato.Step.MODEL, [1])
+
+        def restarts(number):
+            for _ in range(500):
+                session.close() if number % 2 else session.__init__()
+
+        for _ in pool.map(restarts, range(4)):
+            pass
+
+
+class Unbegun(cefindrato.Session):
+    """A subclass that does not begin what it has."""
+
+    def __init__(self):
+        pass
+
+
+def of_lives():
+    """An object that is begun again frees what it had; one that was never begun is none."""
+    session = cefindrato.Session()
+    wide = range(1, 200001)
+    session.give(1, wide)
+    before = resource.getrusage(resource.RUSAGE_SELF).ru_maxrss
+    for _ in range(60):
+        session.__init__()
+        session.give(1, wide)
+    assert resource.getrusage(resource.RUSAGE_SELF).ru_maxrss - before < 30000
+    session.satisfies([], [200000])
+    unbegun = Unbegun()
+    assert refused(unbegun.give, 1, [1]) == "there is no session"
+    unbegun.close()
+    program = "import cefindrato\nclass Mine(cefindrato.Checker):\n    def __init__(self): pass\nMine()\nMine().close()\n"
+    ran = subprocess.run([sys.executable, "-c", program], capture_output=True, text=True)
+    assert (ran.returncode, ran.stdout, ran.stderr) == (0, "", ""), ran
 
 
 def of_sessions():
@@ -193,6 +340,10 @@ def main(cnf_name, proof_name):
     of_drat()
     of_models()
     of_sessions()
+    of_numbers()
+    of_generators()
+    of_threads()
+    of_lives()
     of_checkers()
     of_bytes(cnf_name, text)
     of_command(cnf_name, proof_name)

@@ -152,6 +152,16 @@ def by_drat(folder):
     assert cefindrato.check_unsat(FOUR, [b"1 0", "0"]) is True
     assert cefindrato.check_unsat((it for it in FOUR), (it for it in ("1 0", "0"))) is True
     assert refused(cefindrato.check_unsat, FOUR[:3], ["-1 0", "0"]) == WRONG
+    # no fault names a file that is gone when it is read
+    for arguments, wanted in (
+        ((FOUR[:3], ["-1 0", "0"]), f"{WRONG}\nin the proof"),
+        ((b"p cnf x\n", drat), "formula: line 1: bad header\nin the formula\nbad header: p cnf x"),
+        (("four.cnf", ["x"]), "proof: step 1: malformed\nin the proof"),
+    ):
+        try:
+            cefindrato.check_unsat(*arguments)
+        except cefindrato.Fault as why:
+            assert str(why) == wanted, why
     assert refused(cefindrato.check_unsat, "none.cnf", drat).startswith("cannot open ")
 
 
@@ -202,7 +212,7 @@ def of_session():
         for call in (session.delete, lambda lits: session.give(1, lits), lambda lits: session.satisfies([], lits)):
             try:
                 call(None)
-            except TypeError:
+            except ValueError:
                 continue
             raise AssertionError("None is taken for a list")
         session.give(1, [1])

@@ -19,8 +19,9 @@ cefindrato.faults.Fault: step 5: model does not satisfy clause
 
 import ctypes
 from enum import IntEnum
-from typing import Iterable
+from typing import Iterable, SupportsIndex
 
+from . import lists
 from .handles import NO_LITERAL, Handled, literals, words
 
 _CAUSES = {
@@ -69,10 +70,10 @@ class _Answer(ctypes.Structure):
     _fields_ = [("status", ctypes.c_uint8), ("cause", ctypes.c_uint8), ("step", ctypes.c_uint64)]
 
 
-def clause_hash(clause: Iterable[int]) -> int:
+def clause_hash(clause: Iterable[SupportsIndex]) -> int:
     """The hash by which a step names a clause: the exclusive or of those of its literals."""
     hash = 0
-    for it in set(clause):
+    for it in set(lists.literals(clause, "the clause")):
         hash ^= ~(2 * abs(it) - (1 if it < 0 else 2) + 2**29) * 0x61C8864680B583EB % _WORD
     return hash
 
@@ -81,7 +82,8 @@ class Checker(Handled):
     """A checker, also as a context manager. Literals are DIMACS numbers.
 
     A call that is rejected raises a Fault with the cause and the number of the step; the checker can go on. OutOfMemory is raised if
-    there is no memory: then later calls may raise a Fault that the checker has failed. A checker belongs to one thread at a time.
+    there is no memory: then later calls may raise a Fault that the checker has failed. What is no number is named by a ValueError.
+    Several threads may call: one waits for the other.
     """
 
     _calls = "cefindrato_checker"
@@ -91,14 +93,14 @@ class Checker(Handled):
         cause = _CAUSES[answer.cause]
         return f"step {answer.step}: {cause}" if answer.cause < 30 else cause
 
-    def add_clause(self, clause: Iterable[int]) -> None:
+    def add_clause(self, clause: Iterable[SupportsIndex]) -> None:
         """Adds an input clause, which is no step. It changes nothing if unsatisfiability is recorded."""
-        self._call("add_clause", *literals(clause))
+        self._call("add_clause", *literals(clause, "the clause"))
 
-    def check_step(self, step: Step, lits: Iterable[int] = (), hashes: Iterable[int] = ()) -> None:
+    def check_step(self, step: Step, lits: Iterable[SupportsIndex] = (), hashes: Iterable[SupportsIndex] = ()) -> None:
         """Checks a step over these literals. A lemma or a failed core needs the hashes of clauses, in the order of propagation; unit
         clauses are known without."""
-        self._call("check_step", ctypes.c_uint8(Step(step)), *literals(lits), *words(hashes, "a hash"))
+        self._call("check_step", ctypes.c_uint8(Step(step)), *literals(lits, "the step"), *words(hashes, "a hash"))
 
     def unsat(self) -> bool:
         """Whether unsatisfiability is recorded: then no assignment satisfies the clauses, and no later query has a model."""

@@ -1,10 +1,12 @@
 """What the library keeps for an object behind a handle, and lists of numbers for its calls, by ctypes."""
 
 import ctypes
-from typing import Any, Iterable, List
+import threading
+from typing import Any, Iterable, List, SupportsIndex
 
 from .faults import Fault, OutOfMemory
 from .library import OUT_OF_MEMORY, VERIFIED, loaded
+from .lists import listed
 
 NO_LITERAL = "a number is no literal"
 
@@ -13,35 +15,43 @@ class _Handle(ctypes.Structure):
     _fields_ = [("at", ctypes.c_void_p), ("held", ctypes.c_bool)]
 
 
-def _listed(kind: type, numbers: Iterable[int], bits: int, least: int, why: str) -> List[object]:
+def _array(kind: type, numbers: List[int], bits: int, least: int, why: str) -> List[object]:
     """The numbers as an array and its length. ctypes would cut off what does not fit."""
-    numbers = list(numbers)
     if not all(least <= it < least + 2**bits for it in numbers):
         raise Fault(why)
     return [(kind * max(1, len(numbers)))(*numbers), ctypes.c_size_t(len(numbers))]
 
 
-def literals(numbers: Iterable[int]) -> List[object]:
-    return _listed(ctypes.c_int32, numbers, 32, -(2**31), NO_LITERAL)
+def literals(numbers: Iterable[SupportsIndex], what: str) -> List[object]:
+    """Literals; `what` tells of what they are."""
+    return _array(ctypes.c_int32, listed(numbers, what), 32, -(2**31), NO_LITERAL)
 
 
-def words(numbers: Iterable[int], what: str) -> List[object]:
+def words(numbers: Iterable[SupportsIndex], what: str) -> List[object]:
     """Numbers of 64 bits; `what` tells what one of them is."""
-    return _listed(ctypes.c_uint64, numbers, 64, 0, f"{what} has more than 64 bits or a sign")
+    return _array(ctypes.c_uint64, listed(numbers, "the list", "whole number"), 64, 0, f"{what} has more than 64 bits or a sign")
 
 
 class Handled:
-    """What the library keeps for an object, also as a context manager: it begins with the object.
+    """What the library keeps for an object, also as a context manager: it begins with the object, and anew where that is made again.
 
-    The calls are those whose names begin with `_calls`, and their answers are `_answer`.
+    The calls are those whose names begin with `_calls`, and their answers are `_answer`. Of calls from several threads one waits for
+    the other, since ctypes lets them run at once, and the library takes one at a time.
     """
 
     _calls: str
     _answer: Any
 
+    def __new__(cls, *_: object, **__: object) -> Any:
+        made = super().__new__(cls)
+        made._handle = _Handle()
+        made._alone = threading.RLock()
+        return made
+
     def __init__(self) -> None:
-        self._handle = _Handle()
-        self._call("begin")
+        with self._alone:
+            self.close()
+            self._call("begin")
 
     def __enter__(self) -> Any:
         return self
@@ -60,7 +70,8 @@ class Handled:
         """What the library answers to a call."""
         call = getattr(loaded(), f"{self._calls}_{name}")
         call.restype = kind
-        return call(ctypes.byref(self._handle), *arguments)
+        with self._alone:
+            return call(ctypes.byref(self._handle), *arguments)
 
     def _call(self, name: str, *arguments: object) -> None:
         answer = self._told(name, self._answer, *arguments)
