@@ -322,6 +322,98 @@ case_lies() {
   done
 }
 
+# A checker that can't be asked refuses nothing: its message, and status 2.
+case_unasked() {
+  printf '#!/bin/sh\necho "there is no option --receipt" >&2\necho usage >&2\nexit 2\n' > bin/older
+  chmod +x bin/older
+  export DRAT_CHECK=older
+  why=': there is no option --receipt'
+  faults "older cannot be asked for two/2.drat$why" pieces check eight.cnf two 2
+  faults "older cannot be asked for ran/1.drat$why" pieces run eight.cnf eight.drat ran --lemmas 1
+  faults "older cannot be asked for ran/2.drat$why" pieces run eight.cnf eight.drat ran --lemmas 1 --memory
+}
+
+# A receipt that was cut off in copying is named, and the next run replaces it. What no receipt begins with stays.
+case_cut_off() {
+  cp two/1.receipt carries
+  cp two/2.receipt refuted
+  for name in 1 2; do
+    cp carries two/1.receipt
+    cp refuted two/2.receipt
+    size=$(wc -c < "two/$name.receipt")
+    for length in 0 1 8 40 $((size - 1)); do
+      head -c "$length" two/"$name".receipt > held
+      cp held "two/$name.receipt"
+      says 1 "$name: its receipt is cut off"$'\n1 of 2 pieces are not verified' pieces report eight.cnf two
+      says 0 "$name" pieces left eight.cnf two
+      says 0 '' pieces check eight.cnf two "$name"
+      says 0 "$whole" pieces report eight.cnf two
+    done
+  done
+  for text in 'carried sha256 ' 'carries sha256 0g' "$(cat carries) "; do
+    printf '%s' "$text" > two/1.receipt
+    faults 'cannot write two/1.receipt: there is a file that pieces did not write' pieces check eight.cnf two 1
+    same two/1.receipt "$text"
+  done
+}
+
+# A number of many digits is no piece, and no number of anything.
+case_digits() {
+  digits=$(printf '1%.0s' {1..5000})
+  faults 'there is no piece 1111' pieces check eight.cnf two "$digits"
+  faults 'there is no piece 00000000000000000000' pieces check eight.cnf two 00000000000000000000
+  faults ' is no number from 1 on' pieces cut eight.cnf eight.drat two --lemmas "$digits"
+  says 0 '' pieces check eight.cnf two 00000000000000000002
+  says 0 "$whole" pieces report eight.cnf two
+}
+
+# told COMMAND..: it must end well, and write these lines to standard error, in any order
+told() {
+  "${@:2}" > said 2> err || { cat err; wrong=1; }
+  same <(sort err) "$1"
+}
+
+# A line for a piece that is verified, where it is asked for and on a terminal.
+case_verbose() {
+  both=$'1: verified\n2: verified'
+  told '' pieces check eight.cnf two 1 2
+  told "$both" pieces check --verbose eight.cnf two 1 2
+  told '' pieces run eight.cnf eight.drat ran --lemmas 1
+  told "$both" pieces run eight.cnf eight.drat ran --lemmas 1 --verbose
+  told "$both" pieces run eight.cnf eight.drat ran --lemmas 1 --memory --verbose
+  pieces check --verbose seven.cnf two 1 2 > said 2> err || true
+  same err '2: verified'
+  fails 0 '1: verified' python3 -c 'import pty, sys; sys.exit(pty.spawn(sys.argv[1:]) >> 8)' pieces run eight.cnf eight.drat ran --lemmas 1
+}
+
+# asks LEAST MOST COMMAND..: with these words the cutter is asked for so many lemmas a piece; for none where LEAST is -
+asks() {
+  rm -f asked
+  DRAT_CUT=asked_cut "${@:3}" > said 2> err || true
+  found=$(sed -n 's/.*--lemmas \([0-9]*\)$/\1/p' asked)
+  if [[ $1 == - && $found ]] || { [[ $1 != - ]] && ! ((found >= $1 && found <= $2)); }; then
+    printf '%s: the cutter was asked for %s\n' "${*:3}" "$(cat asked)"
+    wrong=1
+  fi
+}
+
+# The pieces are a multiple of the jobs, near to 20000 lemmas, by the size of the proof: here of 80000 lemmas, at the end of which only
+# deletions follow, and in the binary form 40000. One of few lemmas is not cut further.
+case_count() {
+  solver asked_cut <<< "echo \"\$*\" > $work/asked; exit 1"
+  { yes '1 2 0' | head -n 80000; yes 'd 1 2 0' | head -n 300000; } > long.drat || true
+  python3 -c 'import sys; sys.stdout.buffer.write(b"a\2\4\0d\2\4\0" * 40000)' > long.binary
+  asks 9400 10600 pieces run eight.cnf long.drat ran --jobs 4
+  asks 19000 21000 pieces run eight.cnf long.drat ran --jobs 2
+  asks 19000 21000 pieces run eight.cnf long.drat ran --jobs 1
+  asks 4950 5050 pieces run eight.cnf long.binary ran --jobs 4
+  asks 1000 1000 pieces run eight.cnf eight.drat ran --jobs 4
+  asks 7 7 pieces run eight.cnf long.drat ran --jobs 4 --lemmas 7
+  asks - - pieces run eight.cnf - ran --jobs 4 < long.drat
+  asks - - pieces run eight.cnf long.drat ran --memory
+  asks - - pieces cut eight.cnf long.drat ran
+}
+
 # Without --jobs no more run than the processors of the process.
 case_jobs() {
   only_with taskset
