@@ -10,8 +10,12 @@
 #   Makefile   `make` builds the programs, with `cc` alone
 #   PROVED     what was proved, by what; and the sums of the files
 #
-# The programs must be built, with their objects beside them, as `rt run` or `rt ci --anew` leaves them, and `rt` be on the path. GATE is
-# the output of `rt ci`: without it PROVED says that no whole test run stands behind it. The same sources and toolchain give the same bytes.
+# Where each object has the words `built from sources`, once, the text has the commit: `--version` prints it. If files differ from those of
+# the commit, the words stay.
+#
+# The programs must be built, and `rt` be on the path. Their objects must be beside them, as `rt run` leaves them, and `rt ci` those that it
+# proved in that run; of a program without one the text is taken that `dist/` of the repository has, if it gives the program. GATE is the
+# output of `rt ci`: without it PROVED says that no whole test run stands behind it. The same sources and toolchain give the same bytes.
 set -euo pipefail
 
 if (($# < 1 || $# > 2)) || [[ -z $1 || $1 == -* ]]; then
@@ -29,20 +33,32 @@ if (($# == 2)); then
   run=$(whole_run "$2")
 fi
 mapfile -t names < <(sed -n 's/^PROGRAMS = //p' "$own/dist/Makefile" | tr ' ' '\n')
+stamp=$unstamped
+if git -C "$top" diff --quiet HEAD; then
+  stamp=$(stamp_of "$(git -C "$top" rev-parse HEAD)")
+fi
+
+# object_of_text NAME OBJECT: the same of the text that `dist/` has, if that gives the program as it is built
+object_of_text() {
+  local its
+  its=$(sed -n 's/^commit  *\([0-9a-f]\{40\}\)$/\1/p' "$top/dist/PROVED") && [[ -f $top/dist/$1.S ]] || return 1
+  its=${its:+$(stamp_of "$its")}
+  [[ ! $(unlike_built "$top/dist/$1.S" "$(built "$1")" "${its:-$unstamped}") ]] && objcopy --redefine-sym main=rattle_main "$work/text.o" "$2"
+}
 
 mkdir "$work/dist"
 for name in "${names[@]}"; do
-  if ! object_of "$name" "$work/$name.o"; then
-    echo "no object of $name as it is built: \`rt run\` or \`rt ci --anew\` leaves it" >&2
+  if ! object_of "$name" "$work/$name.o" && ! object_of_text "$name" "$work/$name.o"; then
+    echo "no object of $name as it is built: \`rt run\` leaves it, or \`rt ci --anew\`" >&2
     exit 1
   fi
-  is_proved_here "$name" "$(built "$name")"
+  program=$(built "$name")
+  is_proved_here "$name" "$program"
+  "$own/stamp.py" "$work/$name.o" "$unstamped" "$stamp"
   python3 -B "$own/assembly.py" "$work/$name.o" > "$work/dist/$name.S"
-  # (the text says all that the object does: what is made of it gives it again)
-  "${CC:-cc}" -c -o "$work/again.o" "$work/dist/$name.S"
-  python3 -B "$own/assembly.py" "$work/again.o" > "$work/again.S"
-  if ! cmp "$work/dist/$name.S" "$work/again.S" >&2; then
-    echo "the assembly of $name does not give its object" >&2
+  unlike=$(unlike_built "$work/dist/$name.S" "$program" "$stamp")
+  if [[ $unlike ]]; then
+    echo "the assembly of $name: $unlike" >&2
     exit 1
   fi
 done
