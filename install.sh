@@ -6,10 +6,11 @@
 #   ./install.sh --uninstall PREFIX
 #
 # All is proved and built first, unless nothing has changed since it was. With --built the programs are taken as `rt ci` or
-# `rt run` left them in crates/*/out, and the library if it is there. With --dist make and a C compiler build the programs of dist/; only
-# these are installed, with `checked`, `checked_all`, `verified` and the file PROVED. PREFIX/share/cefindrato/installed lists what is
-# installed, and is written first; by this list all is taken away, also after a run that failed. What is installed may be moved as a
-# whole. DESTDIR, where it is set, stands before PREFIX in all that is written. RT may name another `rt`, and STRIP another `strip`.
+# `rt run` left them in crates/*/out, and the library if it is there. With --dist a C compiler builds the programs of dist/; these are
+# installed with the scripts around them and the file PROVED, without the library and the layers. CC, CFLAGS and LDFLAGS may say how.
+# PREFIX/share/cefindrato/installed lists what is installed, and is written first; by this list all is taken away, also after a run that
+# failed. What is installed may be moved as a whole. DESTDIR, where it is set, stands before PREFIX in all that is written. RT may name
+# another `rt`, and STRIP another `strip`.
 set -euo pipefail
 umask 022
 
@@ -51,23 +52,32 @@ work=$(mktemp -d)
 trap 'rm -rf "$work"' EXIT
 mapfile -t programs < <(sed -n 's/^\([a-z0-9_]*\)_main:.*/\1/p' "$top/crates.txt")
 tools=(checked checked_all circuit_sweep cubes pieces proof_picture sessions verified)
+source='built from sources'
 if [[ $mode == dist ]]; then
   if [[ ! -f $top/dist/PROVED ]]; then
     echo "no $top/dist/PROVED: tools/dist.sh makes dist/" >&2
     exit 1
   fi
-  make -C "$top/dist" CC="${CC:-cc}" CFLAGS="${CFLAGS:--O2}"
+  for name in "${CC:-cc}" python3; do
+    if ! command -v "$name" > "$work/where"; then
+      echo "$name is not installed: a C compiler builds the programs, and python3 makes their man pages" >&2
+      exit 1
+    fi
+  done
   mapfile -t programs < <(sed -n 's/^PROGRAMS = //p' "$top/dist/Makefile" | tr ' ' '\n')
-  tools=(checked checked_all verified)
+  commit=$(sed -n 's/^commit  *\([0-9a-f]\{40\}\)$/\1/p' "$top/dist/PROVED")
+  source=${commit:+commit ${commit:0:11}}
+  source=${source:-built from sources}
 fi
 
 # built CRATE: builds a program, and says where it is
 built() {
   local program=$top/crates/$1/out/$1
   if [[ $mode == dist ]]; then
-    program=$top/dist/${1%_main}
-  fi
-  if [[ $mode == build ]]; then
+    program=$work/$1
+    # shellcheck disable=SC2086 # several words
+    "${CC:-cc}" ${CFLAGS:--O2} ${LDFLAGS:-} -o "$program" "$top/dist/${1%_main}.S" "$top/dist/rt.c" -lm
+  elif [[ $mode == build ]]; then
     "$top/tools/prove_and_run" --build "$1" 2> "$work/said" || {
       cat "$work/said" >&2
       return 1
@@ -163,7 +173,10 @@ for name in "${programs[@]}"; do
   put_program "$name" "$work/$name"
 done
 for name in "${tools[@]}"; do
-  put_program "$name" "$top/tools/$name"
+  # (what it prints by --version is what the programs print)
+  sed "/^VERSION = /s/built from sources/$source/" "$top/tools/$name" > "$work/$name"
+  chmod +x "$work/$name"
+  put_program "$name" "$work/$name"
 done
 if [[ $mode == dist ]]; then
   put 644 "$top/dist/PROVED" share/doc/cefindrato/PROVED
@@ -191,3 +204,6 @@ while read -r kind name; do
     file) cp -P --remove-destination "$stage/$name" "$root/$name" ;;
   esac
 done < "$work/installed"
+if [[ $mode == dist ]]; then
+  echo "${#programs[@]} programs, $source, and ${#tools[@]} scripts are in $root/bin"
+fi

@@ -8,4 +8,4 @@
 set -euo pipefail
 folder=${1:+$(realpath "$1")}
 cd "$(dirname "$0")/.."
-exec python3 -B tests/documents/examples.py "$folder" README.md docs/USING.md docs/reference/HINTS.md
+exec python3 -B tests/documents/examples.py --calls "$folder" README.md docs/USING.md docs/reference/HINTS.md

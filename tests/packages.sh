@@ -40,7 +40,7 @@ if [[ ! -f $dist/PROVED ]]; then
   done
 fi
 version=$(sed -n 's/^const VERSION: &str = "\([^ "]*\).*/\1/p' "$top/crates/command/src/status.rt")
-mapfile -t all < <(printf '%s\n' "${names[@]}" checked checked_all verified | LC_ALL=C sort)
+mapfile -t all < <(printf '%s\n' "${names[@]}" checked checked_all circuit_sweep cubes pieces proof_picture sessions verified | LC_ALL=C sort)
 
 # checkout FOLDER: a copy of this checkout without crates/, and with dist/
 checkout() {
@@ -105,15 +105,15 @@ case_action() {
     rm -rf "$work/runner"
     mkdir "$work/runner"
     said=$(cd "$work" && PATH="$work/bin:$PATH" python3 -B "$own/action.py" "$place" "$work/runner" "${@:4}" 2> "$work/faults") || status=$?
-    same "the action $1" "$2 $3" "$status $(grep -v '^cc \|^make\|^no module yaml' <<< "$said" || true)"
+    same "the action $1" "$2 $3" "$status $(grep -v ' scripts are in \|^no module yaml' <<< "$said" || true)"
   }
   # (this `sudo` records how it was called, and installs nothing)
   printf '#!/bin/sh\nprintf "%%s\\n" "$*" >> "%s/asked"\n' "$work" > "$work/bin/sudo"
   chmod +x "$work/bin/sudo"
   action 'without a formula' 0 ''
-  same 'what it installs' "$(printf '%s\n' "${all[@]}")" "$(cd "$work/runner/temp/cefindrato" && LC_ALL=C ls)"
-  same 'what it adds to the path' "$work/runner/temp/cefindrato" "$(cat "$work/runner/path")"
-  same 'verdicts of the action' "$right" "$(verdicts "$work/runner/temp/cefindrato")"
+  same 'what it installs' "$(printf '%s\n' "${all[@]}")" "$(cd "$work/runner/temp/cefindrato/bin" && LC_ALL=C ls)"
+  same 'what it adds to the path' "$work/runner/temp/cefindrato/bin" "$(cat "$work/runner/path")"
+  same 'verdicts of the action' "$right" "$(verdicts "$work/runner/temp/cefindrato/bin")"
   same 'packages without the input' '' "$(cat "$work/asked" 2> "$work/said" || true)"
   action 'with a formula' 0 's VERIFIED UNSAT' formula=four.cnf 'solver=solver --option'
   action 'with the other answer' 1 's VERIFIED UNSAT' formula=four.cnf 'solver=solver --option' want=sat

@@ -200,13 +200,16 @@ def wrong_examples(document, programs):
     return wrong or not tried
 
 
-def main(programs, *documents):
+def main(*words):
+    """The words are --calls, for the calls too, then a folder of programs or nothing, and documents."""
+    with_calls = words[0] == "--calls"
+    programs, *documents = words[with_calls:]
     with tempfile.TemporaryDirectory() as work:
         if not programs:
             programs = work
             built(programs)
         failed = [document for document in documents if wrong_examples(document, programs)]
-        failed += [program for program in (*names(), *TOOLS) if wrong_calls(program, programs)]
+        failed += [program for program in (*names(), *TOOLS) if with_calls and wrong_calls(program, programs)]
     return 1 if failed else 0
 
 
