@@ -122,6 +122,18 @@ case_size() {
   ((size <= 3000000)) || fault "more than 3,000,000"
 }
 
+# Words are overwritten that stand once, by as many bytes.
+case_stamp() {
+  for row in '0:version' '1:one two' '2:one one'; do
+    echo "${row#*:}" > "$work/text"
+    says 1 "$work/text: 'one' stands there ${row%%:*} times, and once is needed, for 'four'" "$top/tools/release/stamp.py" "$work/text" one four
+    same 'what is left' "${row#*:}" "$(cat "$work/text")"
+  done
+  echo 'one two' > "$work/text"
+  says 0 '' "$top/tools/release/stamp.py" "$work/text" one six
+  same 'what is written' 'six two' "$(cat "$work/text")"
+}
+
 # An object that refers to an empty section: what is assembled of its text gives the text again.
 case_empty_section() {
   printf '.text\n.globl f\nf:\n.long .Lnothing-.\n.section .rodata.nothing,"a",@progbits\n.balign 8\n.Lnothing:\n' > "$work/empty.s"

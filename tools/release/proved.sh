@@ -60,24 +60,25 @@ stamp_of() {
 # tools/release/assembly.py writes of its object, and that, with `unstamped` in the place of the stamp, gives the program, linked as `rt`
 # does. What the program loads is compared, byte for byte, and no names.
 unlike_built() {
-  local file
-  if ! "${CC:-cc}" -c -o "$work/text.o" "$1" 2> "$work/said" || ! python3 -B "$own/assembly.py" "$work/text.o" > "$work/text.S" 2> "$work/said"; then
+  local object=$work/text.o
+  if ! "${CC:-cc}" -c -o "$object" "$1" 2> "$work/said" || ! python3 -B "$own/assembly.py" "$object" > "$work/text.S" 2> "$work/said"; then
     echo "it gives no object: $(head -n 1 "$work/said")"
   elif ! cmp -s "$1" "$work/text.S"; then
     echo 'it is not the text of the object that it gives'
-  elif [[ $(nm -g --defined-only "$work/text.o" | cut -d ' ' -f 2-) != 'T rattle_main' ]]; then
+  elif [[ $(nm -g --defined-only "$object" | cut -d ' ' -f 2-) != 'T rattle_main' ]]; then
     echo 'it defines more than rattle_main'
-  elif ! "$own/stamp.py" "$work/text.o" "$3" "$unstamped" 2> "$work/said"; then
+  elif ! "$own/stamp.py" "$object" "$3" "$unstamped" 2> "$work/said"; then
     cat "$work/said"
-  else
-    objcopy --redefine-sym rattle_main=main "$work/text.o"
-    "$own/link.sh" "$work/text.o" "$work/text" || return
-    cp "$2" "$work/built"
-    for file in text built; do
-      objcopy --strip-all --remove-section .note.gnu.build-id "$work/$file"
-    done
-    cmp -s "$work/text" "$work/built" || echo 'it does not give the program as it is built'
+  elif ! objcopy --redefine-sym rattle_main=main "$object" || ! "$own/link.sh" "$object" "$work/text"; then
+    echo 'it gives no program'
+  elif ! loaded "$work/text" "$work/text.loaded" || ! loaded "$2" "$work/built.loaded" || ! cmp -s "$work/text.loaded" "$work/built.loaded"; then
+    echo 'it does not give the program as it is built'
   fi
+}
+
+# loaded PROGRAM FILE: a program without its names, and the sum over them
+loaded() {
+  objcopy --strip-all --remove-section .note.gnu.build-id "$1" "$2"
 }
 
 # record_head VERSION RUN: of what commit the programs are, by what they were proved, and what passed
