@@ -305,7 +305,7 @@ case_opened() {
       sed -n 's|.*execve("\(/[^"]*\)".* = 0$|\1|p' "$work/trace" | { xargs -r realpath -q || true; } | sed -n "s|^$top/||p"
     } | sort -u > "$work/opened"
     same "what tests/$name.sh opens and its key has not" '' \
-      "$(cd "$top" && comm -23 "$work/opened" <(python3 -B tests/run/keys.py --files "$name" | sort) | grep -v '^\.git/' |
+      "$(cd "$top" && comm -23 "$work/opened" <(python3 -B tests/run/keys.py --files "$name" | sort) | grep -vE '^\.git(/|$)' |
         while read -r file; do [[ ! -f $file ]] || echo "$file"; done)"
     grep -qx "tests/$name.sh" "$work/opened" || fault "tests/$name.sh does not open itself"
   done
