@@ -5,6 +5,7 @@
 #   tests/drat_growth.sh
 #
 # The programs must be built: `rt ci` does it, or `rt run` in their folders. Without valgrind nothing is tried.
+# needs: benches/drat_hostile.py
 set -euo pipefail
 . "$(dirname "$0")/lib.sh"
 needs drat_check drat_cut

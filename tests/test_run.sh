@@ -195,13 +195,14 @@ case_keys() {
   at_once 'another script'
   chmod 600 tests/data/input
   again 'a mode'
-  (export PATH=$PATH:/nowhere && again PATH)
-  (export TZ=Asia/Tokyo && again TZ)
-  (ulimit -S -n 100 && again 'ulimit -n')
+  (export PATH=$PATH:/nowhere && again PATH && exit "$wrong") || wrong=1
+  (export TZ=Asia/Tokyo && again TZ && exit "$wrong") || wrong=1
+  (ulimit -S -n 100 && again 'ulimit -n' && exit "$wrong") || wrong=1
   mkdir "$work/python"
   printf '#!/bin/sh\n[ "$1" != --version ] || { echo "Python 4"; exit; }\nexec %q "$@"\n' "$(type -P python3)" > "$work/python/python3"
   chmod +x "$work/python/python3"
-  (export PATH=$work/python:$PATH && again 'python3' && sed -i 's/Python 4/Python 5/' "$work/python/python3" && again 'the version of python3')
+  (export PATH=$work/python:$PATH && again 'python3' && sed -i 's/Python 4/Python 5/' "$work/python/python3" && again 'the version of python3' &&
+    exit "$wrong") || wrong=1
   # a file that changes while the script runs: what passed is of neither
   # shellcheck disable=SC2016 # for the script
   printf '. "$(dirname "$0")/lib.sh"\necho >> "$top/docs/A.md"\n' | write writes
@@ -304,7 +305,7 @@ case_opened() {
       sed -n 's|.*execve("\(/[^"]*\)".* = 0$|\1|p' "$work/trace" | { xargs -r realpath -q || true; } | sed -n "s|^$top/||p"
     } | sort -u > "$work/opened"
     same "what tests/$name.sh opens and its key has not" '' \
-      "$(cd "$top" && comm -23 "$work/opened" <(python3 -B tests/run/keys.py --files "$name" | sort) | grep -v '^\.git/' |
+      "$(cd "$top" && comm -23 "$work/opened" <(python3 -B tests/run/keys.py --files "$name" | sort) | grep -vE '^\.git(/|$)' |
         while read -r file; do [[ ! -f $file ]] || echo "$file"; done)"
     grep -qx "tests/$name.sh" "$work/opened" || fault "tests/$name.sh does not open itself"
   done
