@@ -44,14 +44,30 @@ def last_variable():
     return text(FOUR), text([[LAST, 1], [-LAST, 1], [1]])
 
 
-def far_variables():
-    """100,000 variables, each far from the others."""
-    names = [LAST - 2_000 * place for place in range(100_000)]
+def far(count):
+    """Variables, each far from the others."""
+    names = [LAST - 2_000 * place for place in range(count)]
     return text(FOUR), text([[name, 1, 2] for name in names] + [[1]])
+
+
+def far_variables():
+    return far(100_000)
 
 
 def deletions_of_nothing():
     return text(FOUR), deletions([[3, 4]]) * 1_000_000 + text([[1]])
+
+
+def deletions_of_others(count):
+    """Deletions of clauses that are not there, each beside one that is."""
+    names = range(5, count + 5)
+    return text(FOUR + [[3, 4, it] for it in names]), deletions([[3, -4, it] for it in names]) + text([[1]])
+
+
+def deletions_of_units(count):
+    """Units that are deleted one by one."""
+    units = [[it] for it in range(3, count + 3)]
+    return text(FOUR + units), deletions(units) + text([[1]])
 
 
 def deletions_of_reasons():
@@ -77,26 +93,32 @@ def repeated_literal():
     return text(FOUR), text([[1] * 10_000_000])
 
 
-def equal_clauses():
-    """One clause 100,000 times, deleted as often."""
-    same = [[3, 4, 5]] * 100_000
+def equal(count):
+    """One clause many times, deleted as often."""
+    same = [[3, 4, 5]] * count
     return text(FOUR), text(same) + deletions(same) + text([[1]])
+
+
+def equal_clauses():
+    return equal(100_000)
 
 
 def clauses_of_one_literal(count):
     return [[3, 4 + place] for place in range(count)]
 
 
-def one_literal_100000():
-    """100,000 clauses that watch one literal, the oldest deleted first."""
-    some = clauses_of_one_literal(100_000)
+def one_literal(count):
+    """Clauses that watch one literal, the oldest deleted first."""
+    some = clauses_of_one_literal(count)
     return text(FOUR), text(some) + deletions(some) + text([[1]])
+
+
+def one_literal_100000():
+    return one_literal(100_000)
 
 
 def one_literal_200000():
-    """200,000 clauses that watch one literal, the oldest deleted first."""
-    some = clauses_of_one_literal(200_000)
-    return text(FOUR), text(some) + deletions(some) + text([[1]])
+    return one_literal(200_000)
 
 
 def one_literal_at_random():
@@ -204,6 +226,28 @@ def chain_of_lemmas(count):
     """Lemmas each of which forces a literal by the one before, and all of them needed."""
     chain = [[3]] + [[place + 3, -place - 2] for place in range(1, count)]
     return text(FOUR), text([*chain, [1, -count - 2], [1]])
+
+
+def long_and_units(count):
+    """A clause, and units that make each literal of it false."""
+    names = range(1, count + 1)
+    return text([names, *([-it] for it in names)]), text([[]])
+
+
+def lemmas_over_units(count):
+    """Units, and lemmas of the same two literals and the negation of one of the units each."""
+    names = range(5, count + 5)
+    six = [[1, 2, 3], [1, 2, -3], [1, -2, 4], [1, -2, -4], [-1, 2], [-1, -2]]
+    return text([[it] for it in names] + six), text([[1, 2, -it] for it in names] + [[1, 2], [1]])
+
+
+def units_and_deletions(count):
+    """A unit lemma and the deletion of the oldest clause that watches one literal, in turn."""
+    starts = range(10, 10 + 4 * count, 4)
+    old = [[3, it, it + 1] for it in starts]
+    pairs = [pair for it in starts for pair in ([it + 2, it + 3], [it + 2, -it - 3])]
+    steps = [text([[it + 2]]) + deletions([clause]) for it, clause in zip(starts, old)]
+    return text(FOUR + old + pairs), "".join(steps) + text([[1]])
 
 
 def chain_25000():

@@ -58,6 +58,42 @@ case_one_bucket() {
   grows drat_check one_bucket 30000 42426
 }
 
+case_lemmas_over_units() {
+  grows drat_check lemmas_over_units 10000 20000
+}
+
+case_units_and_deletions() {
+  grows drat_check units_and_deletions 5000 10000
+}
+
+case_long_and_units() {
+  grows drat_check long_and_units 20000 40000
+}
+
+case_chain_of_lemmas() {
+  grows drat_check chain_of_lemmas 10000 20000
+}
+
+case_equal() {
+  grows drat_check equal 20000 40000
+}
+
+case_one_literal() {
+  grows drat_check one_literal 20000 40000
+}
+
+case_far() {
+  grows drat_check far 20000 40000
+}
+
+case_deletions_of_others() {
+  grows drat_check deletions_of_others 20000 40000
+}
+
+case_deletions_of_units() {
+  grows drat_check deletions_of_units 20000 40000
+}
+
 case_cut_false_in_turn() {
   grows drat_cut false_in_turn 10000 20000
 }

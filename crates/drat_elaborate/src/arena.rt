@@ -215,6 +215,17 @@ impl Arena {
         }
     }
 
+    /// Returns the watched literals of a clause, and whether it has no more.
+    pub(crate) fn watched(
+        &self,
+        block: Block,
+    ) -> Result<(LocalLit, LocalLit, bool), ElaborateFault> {
+        match self.lits(block)? {
+            [first, second, rest @ ..] => Ok((*first, *second, rest.is_empty())),
+            _ => Err(ElaborateFault::Internal),
+        }
+    }
+
     /// Returns all the words, as `lits` reads them.
     #[inline(always)]
     pub(crate) fn words_mut(&mut self) -> &mut [LocalLit] {

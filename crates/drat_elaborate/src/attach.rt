@@ -30,7 +30,7 @@ impl Propagator {
     /// Watches the first two literals of a clause.
     pub(crate) fn watch(&mut self, clause: &Clause) -> Result<(), ElaborateFault> {
         let block = clause.block;
-        let (first, second, is_binary) = self.watched(block)?;
+        let (first, second, is_binary) = self.clauses.arena.watched(block)?;
         let lists = self.lists_of(clause.used);
         lists.push(first, Watch::new(block, second, is_binary))?;
         lists.push(second, Watch::new(block, first, is_binary))
@@ -38,20 +38,10 @@ impl Propagator {
 
     /// Removes the watches of a clause's first two literals.
     pub(crate) fn unwatch(&mut self, clause: &Clause) -> Result<(), ElaborateFault> {
-        let (first, second, _) = self.watched(clause.block)?;
-        self.unwatch_by(clause, first)?;
-        self.unwatch_by(clause, second)
-    }
-
-    /// Returns the watched literals, and whether the clause has no more.
-    pub(crate) fn watched(
-        &self,
-        block: Block,
-    ) -> Result<(LocalLit, LocalLit, bool), ElaborateFault> {
-        match self.clauses.arena.lits(block)? {
-            [first, second, rest @ ..] => Ok((*first, *second, rest.is_empty())),
-            _ => Err(ElaborateFault::Internal),
-        }
+        let (first, second, _) = self.clauses.arena.watched(clause.block)?;
+        let lists = self.lists_of(clause.used);
+        lists.unwatch(first, clause.block)?;
+        lists.unwatch(second, clause.block)
     }
 
     /// Returns the watch lists of the clauses with this use.

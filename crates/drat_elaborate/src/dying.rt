@@ -35,7 +35,7 @@ pub(crate) struct Dying {
 impl Dying {
     pub(crate) fn new(alloc: Global) -> Dying {
         Dying {
-            watches: Watches::new(alloc),
+            watches: Watches::new(alloc, Use::Dying),
             clauses: Vec::new(alloc),
             is_open: false,
             needed: 0,
@@ -83,9 +83,7 @@ impl Propagator {
         if self.dying.is_empty() {
             return Ok(());
         }
-        if !self.stale.is_empty() {
-            self.refresh()?;
-        }
+        self.dying.watches.clean_all(&mut self.clauses)?;
         self.revive_all()
     }
 
@@ -103,7 +101,7 @@ impl Propagator {
     }
 
     /// Moves the watches of the clauses that are visited last to those of the other unused ones.
-    /// There is no stale list.
+    /// None of their lists is stale.
     fn revive_all(&mut self) -> Result<(), ElaborateFault> {
         for place in 0..self.dying.clauses.len() {
             if let Some(clause) = self.dying.clauses.get(place).copied() {
@@ -123,7 +121,7 @@ impl Propagator {
         found.used = Use::Never;
         let found = *found;
         if found.is_active && found.is_watched {
-            let (first, second, _) = self.watched(found.block)?;
+            let (first, second, _) = self.clauses.arena.watched(found.block)?;
             self.join_lists(first)?;
             self.join_lists(second)?;
         }

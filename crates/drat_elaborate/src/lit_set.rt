@@ -51,4 +51,11 @@ impl LitSet {
             None => Err(ElaborateFault::Internal),
         }
     }
+
+    /// Removes a literal.
+    pub(crate) fn remove(&mut self, lit: LocalLit) {
+        if let Some(stamp) = self.stamps.get_mut(lit.place()) {
+            *stamp = 0;
+        }
+    }
 }

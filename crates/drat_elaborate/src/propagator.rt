@@ -1,11 +1,10 @@
 //! Unit propagation over two watched literals, first in the clauses that are used.
 use crate::arena::{Arena, Block};
-use crate::clauses::{ClauseIndex, Clauses};
+use crate::clauses::{ClauseIndex, Clauses, Use};
 use crate::dying::Dying;
 use crate::fault::ElaborateFault;
 use crate::local::LocalLit;
 use crate::recent::Recent;
-use crate::stale::StaleLists;
 use crate::standing::Standing;
 use crate::sweep::{Sweep, sweep_list, sweep_whole};
 use crate::trail::Trail;
@@ -32,7 +31,6 @@ pub(crate) struct Propagator {
     /// The clauses that are watched in `lately`.
     pub(crate) used_lately: Vec<ClauseIndex>,
     pub(crate) recent: Recent,
-    pub(crate) stale: StaleLists,
 }
 
 /// How far the trail has been propagated in clauses that are visited up to the next unit.
@@ -91,13 +89,12 @@ impl Propagator {
             alloc,
             clauses: Clauses::new(alloc),
             trail: Trail::new(alloc),
-            lately: Watches::new(alloc),
-            used: Watches::new(alloc),
-            unused: Watches::new(alloc),
+            lately: Watches::new(alloc, Use::Lately),
+            used: Watches::new(alloc, Use::Before),
+            unused: Watches::new(alloc, Use::Never),
             dying: Dying::new(alloc),
             used_lately: Vec::new(alloc),
             recent: Recent::new(alloc),
-            stale: StaleLists::new(alloc),
         }
     }
 
@@ -106,13 +103,12 @@ impl Propagator {
     pub(crate) fn end(&mut self) {
         self.clauses.end();
         self.trail = Trail::new(self.alloc);
-        self.lately = Watches::new(self.alloc);
-        self.used = Watches::new(self.alloc);
-        self.unused = Watches::new(self.alloc);
+        self.lately = Watches::new(self.alloc, Use::Lately);
+        self.used = Watches::new(self.alloc, Use::Before);
+        self.unused = Watches::new(self.alloc, Use::Never);
         self.dying = Dying::new(self.alloc);
         self.used_lately = Vec::new(self.alloc);
         self.recent = Recent::new(self.alloc);
-        self.stale = StaleLists::new(self.alloc);
     }
 
     /// Allocates slots for this many variables.
@@ -133,10 +129,39 @@ impl Propagator {
     }
 
     /// Propagates the trail from a position on. Returns the clause of a conflict, if there is one.
+    #[inline(always)]
     pub(crate) fn propagate(&mut self, from: usize) -> Result<Option<Block>, ElaborateFault> {
-        if !self.stale.is_empty() {
-            self.refresh()?;
+        let is_clean = self.lately.stale.is_empty() && self.used.stale.is_empty();
+        if is_clean && self.unused.stale.is_empty() && self.dying.watches.stale.is_empty() {
+            self.propagate_clean(from)
+        } else {
+            self.propagate_stale(from)
         }
+    }
+
+    /// Does what `propagate` does where no list is stale.
+    #[inline(never)]
+    fn propagate_clean(&mut self, from: usize) -> Result<Option<Block>, ElaborateFault> {
+        self.propagate_in(from, true)
+    }
+
+    /// Does what `propagate` does where some lists are stale: each that is visited is cleaned first.
+    #[inline(never)]
+    fn propagate_stale(&mut self, from: usize) -> Result<Option<Block>, ElaborateFault> {
+        self.lately.clean_if_many(&mut self.clauses)?;
+        self.used.clean_if_many(&mut self.clauses)?;
+        self.unused.clean_if_many(&mut self.clauses)?;
+        self.dying.watches.clean_if_many(&mut self.clauses)?;
+        self.propagate_in(from, false)
+    }
+
+    /// Does what `propagate` does; with `is_clean` no list is stale.
+    #[inline(always)]
+    fn propagate_in(
+        &mut self,
+        from: usize,
+        is_clean: bool,
+    ) -> Result<Option<Block>, ElaborateFault> {
         let mut heads = Heads {
             lately: from,
             used: Head::at(from),
@@ -146,7 +171,7 @@ impl Propagator {
         };
         // Each step but the last makes a literal true.
         for _ in 0..self.trail.lit_count().saturating_add(1) {
-            match self.advance(&mut heads)? {
+            match self.advance(&mut heads, is_clean)? {
                 Progress::Going => {}
                 Progress::Done => return Ok(None),
                 Progress::Conflict(block) => return Ok(Some(block)),
@@ -157,12 +182,12 @@ impl Propagator {
 
     /// Propagates up to the first clause that is unit or false, used clauses first.
     #[inline(always)]
-    fn advance(&mut self, heads: &mut Heads) -> Result<Progress, ElaborateFault> {
-        if let Some(block) = self.advance_lately(heads)? {
+    fn advance(&mut self, heads: &mut Heads, is_clean: bool) -> Result<Progress, ElaborateFault> {
+        if let Some(block) = self.advance_lately(heads, is_clean)? {
             return Ok(Progress::Conflict(block));
         }
-        let (arena, trail) = (&mut self.clauses.arena, &mut self.trail);
-        match advance_to_unit(arena, trail, &mut self.used, &mut heads.used)? {
+        let (clauses, trail) = (&mut self.clauses, &mut self.trail);
+        match advance_to_unit(clauses, trail, &mut self.used, &mut heads.used, is_clean)? {
             Progress::Done => {}
             progress => return Ok(progress),
         }
@@ -172,10 +197,17 @@ impl Propagator {
             }
             heads.recent = self.trail.len();
         }
-        let (arena, trail) = (&mut self.clauses.arena, &mut self.trail);
-        match advance_to_unit(arena, trail, &mut self.unused, &mut heads.unused)? {
+        let (clauses, trail) = (&mut self.clauses, &mut self.trail);
+        match advance_to_unit(
+            clauses,
+            trail,
+            &mut self.unused,
+            &mut heads.unused,
+            is_clean,
+        )? {
             Progress::Done if !self.dying.is_empty() => {
-                advance_to_unit(arena, trail, &mut self.dying.watches, &mut heads.dying)
+                let (watches, head) = (&mut self.dying.watches, &mut heads.dying);
+                advance_to_unit(clauses, trail, watches, head, is_clean)
             }
             progress => Ok(progress),
         }
@@ -184,12 +216,22 @@ impl Propagator {
     /// Propagates the trail to its end in the clauses that were used lately. Returns the clause of
     /// a conflict, if there is one.
     #[inline(always)]
-    fn advance_lately(&mut self, heads: &mut Heads) -> Result<Option<Block>, ElaborateFault> {
+    fn advance_lately(
+        &mut self,
+        heads: &mut Heads,
+        is_clean: bool,
+    ) -> Result<Option<Block>, ElaborateFault> {
         let from = self.lately.skip_unwatched(self.trail.lits(), heads.lately);
         if from < self.trail.len() {
-            let (arena, trail) = (&mut self.clauses.arena, &mut self.trail);
-            if let Some(block) = sweep_on(arena, trail, &mut self.lately, from)? {
-                return Ok(Some(block));
+            let (clauses, trail) = (&mut self.clauses, &mut self.trail);
+            let conflict = if is_clean {
+                let end = trail.lit_count();
+                sweep_on(&mut clauses.arena, trail, &mut self.lately, from, end)?
+            } else {
+                sweep_stale(clauses, trail, &mut self.lately, from)?
+            };
+            if conflict.is_some() {
+                return Ok(conflict);
             }
         }
         heads.lately = self.trail.len();
@@ -234,13 +276,15 @@ impl Propagator {
     }
 }
 
-/// Propagates along the trail, up to the first clause that is unit or false.
+/// Propagates along the trail, up to the first clause that is unit or false. With `is_clean` no
+/// list is stale.
 #[inline(always)]
 fn advance_to_unit(
-    arena: &mut Arena,
+    clauses: &mut Clauses,
     trail: &mut Trail,
     watches: &mut Watches,
     head: &mut Head,
+    is_clean: bool,
 ) -> Result<Progress, ElaborateFault> {
     for _ in head.place..trail.lit_count() {
         let place = watches.skip_unwatched(trail.lits(), head.place);
@@ -248,8 +292,12 @@ fn advance_to_unit(
         let Some(lit) = trail.get(head.place) else {
             break;
         };
+        if !is_clean {
+            watches.clean(clauses, !lit)?;
+        }
         let end = head.end.min(len_of(watches.all(), !lit));
-        let (alloc, words, growing) = (watches.alloc(), arena.words_mut(), &mut trail.growing());
+        let (alloc, words) = (watches.alloc(), clauses.arena.words_mut());
+        let growing = &mut trail.growing();
         match sweep_list(alloc, words, growing, watches.all(), !lit, end)? {
             Sweep::End => {
                 let next = head.place.saturating_add(1);
@@ -266,19 +314,43 @@ fn advance_to_unit(
     Ok(Progress::Done)
 }
 
-/// Propagates along the trail to its end. Returns the clause of a conflict, if there is one.
+/// Does what `sweep_on` does to the end of the trail, where some lists are stale.
+#[inline(never)]
+fn sweep_stale(
+    clauses: &mut Clauses,
+    trail: &mut Trail,
+    watches: &mut Watches,
+    from: usize,
+) -> Result<Option<Block>, ElaborateFault> {
+    let mut place = from;
+    for _ in from..trail.lit_count() {
+        let Some(lit) = trail.get(place) else {
+            break;
+        };
+        watches.clean(clauses, !lit)?;
+        let end = watches.first_stale(trail.lits(), place.saturating_add(1));
+        if let Some(block) = sweep_on(&mut clauses.arena, trail, watches, place, end)? {
+            return Ok(Some(block));
+        }
+        place = end;
+    }
+    Ok(None)
+}
+
+/// Propagates along the trail from a position to another one, or its end. Returns the clause of a
+/// conflict, if there is one.
 #[inline(never)]
 fn sweep_on(
     arena: &mut Arena,
     trail: &mut Trail,
     watches: &mut Watches,
     from: usize,
+    end: usize,
 ) -> Result<Option<Block>, ElaborateFault> {
     let alloc = watches.alloc();
     let (words, lists) = (arena.words_mut(), watches.all());
-    let count = trail.lit_count();
     let mut growing = trail.growing();
-    for place in from..count {
+    for place in from..end {
         let Some(lit) = growing.get(place) else {
             break;
         };

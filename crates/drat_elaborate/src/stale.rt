@@ -1,139 +1,175 @@
 //! Lists of watches that still have deleted clauses.
 //!
 //! To take a clause out of a list costs a visit of each watch after it. In a long list a clause
-//! that is not close to the end stays, and so do those that are removed from that list next. Before
-//! anything is propagated such lists are cleaned, each in one pass.
+//! that is not close to the end stays, and so do those that are removed from that list next. The
+//! list is cleaned when it is next visited, in one pass, which costs no more than the visit. What
+//! stays keeps its order, so that what was close to the end still is.
 use crate::arena::Block;
-use crate::clauses::{Clause, Use};
+use crate::clauses::{Clauses, Use};
 use crate::fault::ElaborateFault;
 use crate::lit_set::LitSet;
 use crate::local::LocalLit;
-use crate::propagator::Propagator;
-use crate::watches::Watch;
+use crate::watches::{Watch, Watches};
 use std::alloc::Global;
 
-/// The literals whose lists have deleted clauses.
+/// All stale lists are cleaned once this many watches were left in them.
+const MANY: usize = 1 << 18;
+
+/// Which lists have deleted clauses.
 #[derive(Drop)]
 pub(crate) struct StaleLists {
-    lits: Vec<LocalLit>,
+    /// The literals of these lists, and how many there are.
     set: LitSet,
+    count: usize,
+    /// The literal of each watch that was left, since no list was stale.
+    left: Vec<LocalLit>,
 }
 
 impl StaleLists {
     pub(crate) fn new(alloc: Global) -> StaleLists {
         StaleLists {
-            lits: Vec::new(alloc),
             set: LitSet::new(alloc),
+            count: 0,
+            left: Vec::new(alloc),
         }
     }
 
     /// Returns whether no list is stale.
     #[inline(always)]
     pub(crate) fn is_empty(&self) -> bool {
-        self.lits.is_empty()
+        self.count == 0
     }
 
-    /// Notes that the lists of a literal are stale, if it was not noted before.
+    /// Returns whether the list of a literal is stale.
+    #[inline(always)]
+    fn contains(&self, lit: LocalLit) -> bool {
+        self.count > 0 && self.set.contains(lit)
+    }
+
+    /// Notes that a watch was left in the list of a literal.
     fn insert(&mut self, lit: LocalLit) -> Result<(), ElaborateFault> {
-        self.set.insert(lit)?;
-        self.lits.push(lit)?;
+        if self.set.insert(lit)? {
+            self.count = self.count.saturating_add(1);
+        }
+        self.left.push(lit)?;
         Ok(())
+    }
+
+    /// Notes that a stale list is cleaned.
+    fn remove(&mut self, lit: LocalLit) {
+        self.set.remove(lit);
+        self.count = self.count.saturating_sub(1);
+        if self.count == 0 {
+            self.left.clear();
+        }
     }
 }
 
-impl Propagator {
+impl Watches {
     /// Removes the watch of a clause from the list of a literal, or notes that the list is stale.
     #[inline(always)]
-    pub(crate) fn unwatch_by(
-        &mut self,
-        clause: &Clause,
-        lit: LocalLit,
-    ) -> Result<(), ElaborateFault> {
-        if !self.stale.is_empty() && self.stale.set.contains(lit) {
-            return Ok(());
-        }
-        if !self.lists_of(clause.used).remove(lit, clause.block)? {
+    pub(crate) fn unwatch(&mut self, lit: LocalLit, block: Block) -> Result<(), ElaborateFault> {
+        if self.stale.contains(lit) || !self.remove(lit, block)? {
             self.stale.insert(lit)?;
         }
         Ok(())
     }
 
-    /// Cleans the stale lists.
-    #[inline(never)]
-    pub(crate) fn refresh(&mut self) -> Result<(), ElaborateFault> {
-        for place in 0..self.stale.lits.len() {
-            if let Some(lit) = self.stale.lits.get(place).copied() {
-                self.refresh_list(Use::Never, lit)?;
-                self.refresh_list(Use::Dying, lit)?;
-                self.refresh_list(Use::Before, lit)?;
-                self.refresh_list(Use::Now, lit)?;
+    /// Returns the first position from one on of a literal whose negation has a stale list; else
+    /// how many literals there are.
+    pub(crate) fn first_stale(&self, lits: &[LocalLit], from: usize) -> usize {
+        for (place, lit) in lits.iter().enumerate().skip(from) {
+            if self.stale.contains(!*lit) {
+                return place;
             }
         }
-        self.stale.lits.clear();
-        self.stale.set.clear()
+        lits.len()
     }
 
-    /// Cleans the list of a literal for clauses of this use.
-    fn refresh_list(&mut self, used: Use, lit: LocalLit) -> Result<(), ElaborateFault> {
-        let mut watches = self.lists_of(used).take(lit);
-        self.keep_current(&mut watches, used, lit)?;
-        for watch in &watches {
-            self.clauses.arena.turn_mark(watch.block())?;
+    /// Cleans the stale lists, if many watches were left in them.
+    pub(crate) fn clean_if_many(&mut self, clauses: &mut Clauses) -> Result<(), ElaborateFault> {
+        if self.stale.left.len() >= MANY {
+            self.clean_all(clauses)?;
         }
-        self.lists_of(used).put(lit, watches);
         Ok(())
     }
 
-    /// Keeps one watch of each clause that is still watched so. Their blocks are marked.
-    fn keep_current(
+    /// Cleans the stale lists.
+    pub(crate) fn clean_all(&mut self, clauses: &mut Clauses) -> Result<(), ElaborateFault> {
+        for place in 0..self.stale.left.len() {
+            if let Some(lit) = self.stale.left.get(place).copied() {
+                self.clean(clauses, lit)?;
+            }
+        }
+        Ok(())
+    }
+
+    /// Cleans the list of a literal, if it is stale.
+    pub(crate) fn clean(
         &mut self,
-        watches: &mut Vec<Watch>,
-        used: Use,
+        clauses: &mut Clauses,
         lit: LocalLit,
     ) -> Result<(), ElaborateFault> {
-        let mut at = 0;
-        // Each step goes on by one place, or takes one out.
-        for _ in 0..watches.len() {
-            if at >= watches.len() {
-                break;
-            }
-            let block = watches[at].block();
-            match self.current(block, used, lit)? {
-                Some(watch) => {
-                    self.clauses.arena.turn_mark(block)?;
-                    watches[at] = watch;
-                    at += 1;
-                }
-                None => {
-                    watches.swap_remove(at);
-                }
-            }
+        if !self.stale.contains(lit) {
+            return Ok(());
         }
+        self.stale.remove(lit);
+        let mut watches = self.take(lit);
+        keep_current(clauses, &mut watches, self.used, lit)?;
+        for watch in &watches {
+            clauses.arena.turn_mark(watch.block())?;
+        }
+        self.put(lit, watches);
         Ok(())
     }
+}
 
-    /// Returns the watch by which a literal watches the clause of a block, among those of this use,
-    /// if it does. A block that is marked or free has the number of no live clause.
-    fn current(
-        &self,
-        block: Block,
-        used: Use,
-        lit: LocalLit,
-    ) -> Result<Option<Watch>, ElaborateFault> {
-        let Ok(found) = self.clauses.get(self.clauses.arena.clause(block)?) else {
-            return Ok(None);
+/// Keeps one watch of each clause that is still watched so, in their order. Their blocks are
+/// marked.
+fn keep_current(
+    clauses: &mut Clauses,
+    watches: &mut Vec<Watch>,
+    used: Use,
+    lit: LocalLit,
+) -> Result<(), ElaborateFault> {
+    let mut kept = 0usize;
+    for place in 0..watches.len() {
+        let Some(block) = watches.get(place).map(|watch| watch.block()) else {
+            break;
         };
-        let is_watched = found.block == block && found.is_active && found.is_watched;
-        if !is_watched || !found.used.shares_lists(used) {
-            return Ok(None);
+        if let Some(watch) = current(clauses, block, used, lit)? {
+            clauses.arena.turn_mark(block)?;
+            if let Some(slot) = watches.get_mut(kept) {
+                *slot = watch;
+            }
+            kept = kept.saturating_add(1);
         }
-        let (first, second, is_binary) = self.watched(block)?;
-        Ok(if lit == first {
-            Some(Watch::new(block, second, is_binary))
-        } else if lit == second {
-            Some(Watch::new(block, first, is_binary))
-        } else {
-            None
-        })
     }
+    watches.truncate(kept);
+    Ok(())
+}
+
+/// Returns the watch by which a literal watches the clause of a block, among those of this use, if
+/// it does. A block that is marked or free has the number of no live clause.
+fn current(
+    clauses: &Clauses,
+    block: Block,
+    used: Use,
+    lit: LocalLit,
+) -> Result<Option<Watch>, ElaborateFault> {
+    let Ok(found) = clauses.get(clauses.arena.clause(block)?) else {
+        return Ok(None);
+    };
+    let is_watched = found.block == block && found.is_active && found.is_watched;
+    if !is_watched || !found.used.shares_lists(used) {
+        return Ok(None);
+    }
+    let (first, second, is_binary) = clauses.arena.watched(block)?;
+    Ok(if lit == first {
+        Some(Watch::new(block, second, is_binary))
+    } else if lit == second {
+        Some(Watch::new(block, first, is_binary))
+    } else {
+        None
+    })
 }

@@ -1,7 +1,9 @@
 //! The lists of watches.
 use crate::arena::Block;
+use crate::clauses::Use;
 use crate::fault::ElaborateFault;
 use crate::local::LocalLit;
+use crate::stale::StaleLists;
 use std::alloc::{AllocError, Global};
 use std::mem;
 
@@ -54,18 +56,23 @@ impl Watch {
     }
 }
 
-/// For each literal the clauses that watch it.
+/// For each literal the clauses of one use that watch it.
 #[derive(Drop)]
 pub(crate) struct Watches {
     alloc: Global,
+    /// The use of the clauses, or another one that shares its lists.
+    pub(crate) used: Use,
     lists: Vec<Vec<Watch>>,
+    pub(crate) stale: StaleLists,
 }
 
 impl Watches {
-    pub(crate) fn new(alloc: Global) -> Watches {
+    pub(crate) fn new(alloc: Global, used: Use) -> Watches {
         Watches {
             alloc,
+            used,
             lists: Vec::new(alloc),
+            stale: StaleLists::new(alloc),
         }
     }
 
