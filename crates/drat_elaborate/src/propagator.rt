@@ -145,7 +145,7 @@ impl Propagator {
         self.propagate_in(from, true)
     }
 
-    /// Does what `propagate` does where some lists are stale: each that is visited is cleaned first.
+    /// Does what `propagate` does where some lists are stale: each is cleaned once it is visited.
     #[inline(never)]
     fn propagate_stale(&mut self, from: usize) -> Result<Option<Block>, ElaborateFault> {
         self.lately.clean_if_many(&mut self.clauses)?;
