@@ -82,6 +82,7 @@ run_now() {
   local key=$1 name=$2 status=0
   SECONDS=0
   "tests/$name.sh" "${@:3}" > "$told/$name" 2>&1 || status=$?
+  # (a script without tests/lib.sh says so by its lines alone)
   if [[ $status == 0 ]] && grep -q 'not tried' "$told/$name"; then
     status=77
   fi
