@@ -2,7 +2,8 @@
 # Makes what the gate does not: the archive of the library for C.
 #
 # It is made in a copy, over the libraries that `./test.sh` or an earlier run has left, and what that leaves is taken over. Where that
-# can't be done, it says why, and the scripts that want the archive make it.
+# can't be done, it says why, and the scripts that want the archive make it. `rt ci` keeps nothing of its check of a static library, and
+# `rt lib` compiles what it has proved itself: so that crate is proved once more.
 # needs: crates crates.txt HANDLES
 set -euo pipefail
 cd "$(dirname "$0")/.."
