@@ -2,13 +2,14 @@
 use crate::clause::ReadClause;
 use crate::fault::CutFault;
 use crate::live::LiveClauses;
+use crate::slots::Slot;
+use crate::steps::CutStep;
 use crate::text::push_clause;
 use crate::units::Units;
-use drat_text::DratStep;
 use sat_formula::Lit;
-use std::alloc::Global;
+use std::alloc::{AllocError, Global};
+use std::io;
 use std::io::Write;
-use std::{io, mem};
 use written_numbers::words::push_literals;
 
 /// How the additions of a proof are read.
@@ -21,7 +22,7 @@ pub enum Additions {
     Dpr,
 }
 
-/// The effect of a step. `step_text` has the text of the first two.
+/// The effect of a step.
 #[derive(Clone, Copy, PartialEq, Eq)]
 pub enum Taken {
     Lemma,
@@ -31,15 +32,7 @@ pub enum Taken {
     Nothing,
 }
 
-/// The kind of the step whose clause was read.
-#[derive(Clone, Copy)]
-enum Awaited {
-    Nothing,
-    Lemma,
-    Deletion,
-}
-
-/// The live clauses at a position of a proof, and the text of the step before it.
+/// The live clauses at a position of a proof.
 ///
 /// Units are propagated, and the reason of a literal is not deleted, as in backward checkers.
 ///
@@ -48,15 +41,15 @@ enum Awaited {
 /// `OutOfMemory`, or `TooMany` clauses; after an error the live clauses are unspecified.
 #[derive(Drop)]
 pub struct Cutter {
+    alloc: Global,
     live: LiveClauses,
     units: Units,
     read: ReadClause,
     /// The witness of the lemma that was read.
     witness: Vec<Lit>,
     additions: Additions,
-    awaited: Awaited,
+    /// The clause that was read, and then its step, where their text is written anew.
     text: Vec<u8>,
-    var_count: usize,
     /// The formula is complete.
     has_begun: bool,
 }
@@ -65,14 +58,13 @@ impl Cutter {
     /// Returns a cutter at the start of a formula. Allocates no memory.
     pub fn new(alloc: Global, additions: Additions) -> Cutter {
         Cutter {
+            alloc,
             live: LiveClauses::new(alloc),
             units: Units::new(alloc),
             read: ReadClause::new(alloc),
             witness: Vec::new(alloc),
             additions,
-            awaited: Awaited::Nothing,
             text: Vec::new(alloc),
-            var_count: 0,
             has_begun: false,
         }
     }
@@ -87,106 +79,111 @@ impl Cutter {
         self.units.conflict
     }
 
-    /// Returns the text of the last step that had an effect.
-    pub fn step_text(&self) -> &[u8] {
-        self.text.as_slice()
-    }
-
-    /// Adds a clause of the formula, before the first step of the proof is read.
+    /// Adds a clause of the formula, before the first step of the proof is taken.
     ///
     /// # Errors
     ///
-    /// `OutOfMemory`, or `TooMany` if more clauses are live than 32 bits number.
+    /// `OutOfMemory`, or `TooMany` if more clauses are live than 31 bits number.
     pub fn add_formula_clause(&mut self, clause: &[Lit]) -> Result<(), CutFault> {
-        self.read_clause(clause)?;
+        self.read.read(clause, self.live.seed)?;
         if self.read.is_tautology {
             return Ok(());
         }
-        let slot = self.live.put_formula_clause(clause, &self.read)?;
-        self.units.attach(&mut self.live.slots, slot)
+        self.text.clear();
+        push_clause(&mut self.text, clause)?;
+        let slot = self.live.put_formula_clause(&self.text, clause)?;
+        self.units.attach(&mut self.live.slots, slot, clause.len())
     }
 
-    /// Reads a step of the proof. The live clauses do not change before `take`.
+    /// Takes a step of the proof, and returns its effect.
     ///
     /// # Errors
     ///
     /// As for `add_formula_clause`.
-    pub fn read(&mut self, step: DratStep<'_>) -> Result<(), CutFault> {
+    pub fn take(&mut self, step: &CutStep<'_>) -> Result<Taken, CutFault> {
         if !self.has_begun {
             self.has_begun = true;
-            self.live.end_formula(&mut self.read)?;
+            self.live.end_formula(self.alloc, &mut self.read)?;
         }
-        match step {
-            DratStep::Add(lits) => {
-                self.awaited = Awaited::Lemma;
-                self.read_lemma(lits)
-            }
-            DratStep::Delete(clause) => {
-                self.awaited = Awaited::Deletion;
-                self.read_clause(clause)
-            }
+        if self.units.conflict {
+            Ok(Taken::Nothing)
+        } else if step.deletes {
+            self.delete(step)
+        } else {
+            self.add(step)
         }
     }
 
-    /// Applies the step that was read, once, and returns its effect.
-    ///
-    /// # Errors
-    ///
-    /// As for `add_formula_clause`.
-    pub fn take(&mut self) -> Result<Taken, CutFault> {
-        let awaited = mem::replace(&mut self.awaited, Awaited::Nothing);
-        match awaited {
-            _ if self.units.conflict => Ok(Taken::Nothing),
-            Awaited::Nothing => Ok(Taken::Nothing),
-            Awaited::Lemma => self.add(),
-            Awaited::Deletion => self.delete(),
-        }
-    }
-
-    /// Adds the lemma that was read, and writes its text.
-    fn add(&mut self) -> Result<Taken, CutFault> {
+    /// Adds a lemma.
+    fn add(&mut self, step: &CutStep<'_>) -> Result<Taken, CutFault> {
+        self.read_lemma(step.lits)?;
         if self.read.is_tautology {
             return Ok(Taken::Nothing);
         }
-        let slot = self.live.put(&self.read)?;
-        self.units.attach(&mut self.live.slots, slot)?;
-        self.text.clear();
-        push_literals(&mut self.text, &self.read.lits)?;
-        push_clause(&mut self.text, &self.witness)?;
+        let slot = match step.text {
+            Some(text) if self.read.is_as_written => self.live.put(text, &self.read)?,
+            _ => self.put_written()?,
+        };
+        let width = self.read.lits.len();
+        self.units.attach(&mut self.live.slots, slot, width)?;
         Ok(Taken::Lemma)
     }
 
-    /// Deletes a clause with the literals that were read, if there is one, and writes its text.
-    fn delete(&mut self) -> Result<Taken, CutFault> {
+    /// Adds the lemma that was read by a text that is written for it, and then writes that of its
+    /// step. Returns its slot.
+    fn put_written(&mut self) -> Result<Slot, CutFault> {
+        self.text.clear();
+        push_clause(&mut self.text, &self.read.lits)?;
+        let slot = self.live.put(&self.text, &self.read)?;
+        self.text.clear();
+        push_literals(&mut self.text, &self.read.lits)?;
+        push_clause(&mut self.text, &self.witness)?;
+        Ok(slot)
+    }
+
+    /// Deletes a clause, if there is one with the literals of the step.
+    fn delete(&mut self, step: &CutStep<'_>) -> Result<Taken, CutFault> {
+        self.read.read(step.lits, self.live.seed)?;
         let Some(slot) = self.live.take(&self.read) else {
             return Ok(Taken::Nothing);
         };
         self.units.detach(&self.live.slots, slot);
-        self.live.slots.release(slot);
-        self.text.clear();
-        self.text.extend_from_slice(b"d ")?;
-        push_clause(&mut self.text, &self.read.lits)?;
+        self.live.slots.release(slot)?;
+        if step.text.is_none() || !self.read.is_as_written {
+            self.text.clear();
+            self.text.extend_from_slice(b"d ")?;
+            push_clause(&mut self.text, &self.read.lits)?;
+        }
         Ok(Taken::Deletion)
     }
 
     /// Reads the clause of an addition and its witness.
-    fn read_lemma(&mut self, lits: &[Lit]) -> Result<(), CutFault> {
-        let (clause, witness) = match self.additions {
-            Additions::Drat => lits.split_at(lits.len()),
-            Additions::Dpr => parts(lits),
-        };
+    fn read_lemma(&mut self, lits: &[Lit]) -> Result<(), AllocError> {
         self.witness.clear();
+        self.read.read(lits, self.live.seed)?;
+        if self.read.is_as_written || self.additions == Additions::Drat {
+            return Ok(());
+        }
+        let (clause, witness) = parts(lits);
+        if witness.is_empty() {
+            return Ok(());
+        }
         self.witness.extend_from_slice(witness)?;
-        self.read_clause(clause)
+        self.read.read(clause, self.live.seed)?;
+        self.read.is_as_written = false;
+        Ok(())
     }
 
-    /// Reads a clause, and counts its variables.
-    fn read_clause(&mut self, clause: &[Lit]) -> Result<(), CutFault> {
-        self.read.read(clause)?;
-        for lit in clause {
-            self.var_count = self.var_count.max(lit.index().saturating_add(1));
+    /// Writes a step that was taken last and had an effect.
+    ///
+    /// # Errors
+    ///
+    /// The fault of the first write that failed.
+    pub fn write_step<W: Write>(&self, step: &CutStep<'_>, out: &mut W) -> io::Result<()> {
+        match step.text {
+            Some(text) if self.read.is_as_written => out.write_all(text),
+            _ => out.write_all(&self.text),
         }
-        Ok(())
     }
 
     /// Writes the live clauses as a formula.
@@ -194,14 +191,12 @@ impl Cutter {
     /// # Errors
     ///
     /// The fault of the first write that failed; a beginning of the formula is written then.
-    pub fn write_live<W: Write>(&mut self, out: &mut W) -> io::Result<()> {
-        let (vars, count) = (self.var_count, self.live.slots.count());
+    pub fn write_live<W: Write>(&self, out: &mut W) -> io::Result<()> {
+        let (vars, count) = (self.read.var_count, self.live.slots.count());
         writeln!(out, "p cnf {vars} {count}")?;
-        for entry in self.live.slots.entries() {
-            if entry.lives {
-                self.text.clear();
-                push_clause(&mut self.text, &entry.lits)?;
-                out.write_all(&self.text)?;
+        for number in 0..self.live.slots.len() {
+            if let Some(slot) = self.live.slots.living(number) {
+                out.write_all(self.live.slots.text(slot))?;
             }
         }
         Ok(())

@@ -5,14 +5,19 @@
 //! piece before or after them is rejected.
 #![tactic(auto)]
 
+mod ahead;
 mod clause;
 mod cutter;
 mod fault;
 mod live;
+mod seen;
 mod slots;
+mod steps;
 mod text;
 mod units;
 mod watches;
+mod words;
 
 pub use cutter::{Additions, Cutter, Taken};
 pub use fault::CutFault;
+pub use steps::{CutStep, ProofSteps};

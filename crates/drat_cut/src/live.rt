@@ -1,7 +1,8 @@
 //! The live clauses, by their literals.
-use crate::clause::{ReadClause, stirred};
+use crate::clause::{ClauseHash, ReadClause, stirred};
 use crate::fault::CutFault;
 use crate::slots::{Slot, SlotLink, Slots};
+use crate::words::push_literals_at;
 use sat_formula::Lit;
 use std::alloc::{AllocError, Global};
 
@@ -12,7 +13,7 @@ use std::alloc::{AllocError, Global};
 pub(crate) struct LiveClauses {
     pub(crate) slots: Slots,
     buckets: Vec<SlotLink>,
-    seed: u64,
+    pub(crate) seed: u64,
 }
 
 impl LiveClauses {
@@ -26,35 +27,41 @@ impl LiveClauses {
         }
     }
 
-    /// Adds a clause of the formula, with its literals as written. Returns its slot.
+    /// Adds a clause of the formula by its text, of these literals. Returns its slot.
     pub(crate) fn put_formula_clause(
         &mut self,
-        clause: &[Lit],
-        read: &ReadClause,
+        text: &[u8],
+        lits: &[Lit],
     ) -> Result<Slot, CutFault> {
-        for lit in clause {
+        for lit in lits {
             self.seed = stirred(self.seed, *lit);
         }
-        self.slots.put(clause, width_of(read)?, 0)
+        self.slots.put(text, ClauseHash::EMPTY)
     }
 
     /// Ends the formula, and enters its clauses. `read` is overwritten.
-    pub(crate) fn end_formula(&mut self, read: &mut ReadClause) -> Result<(), AllocError> {
+    pub(crate) fn end_formula(
+        &mut self,
+        alloc: Global,
+        read: &mut ReadClause,
+    ) -> Result<(), AllocError> {
+        let mut lits = Vec::new(alloc);
         for number in 0..self.slots.len() {
             if let Some(slot) = self.slots.living(number) {
+                lits.clear();
+                push_literals_at(&mut lits, self.slots.text(slot), 0)?;
+                read.read(&lits, self.seed)?;
                 if let Some(entry) = self.slots.get_mut(slot) {
-                    read.read(&entry.lits)?;
-                    entry.hash = read.hash(self.seed);
+                    entry.hash = read.hash;
                 }
             }
         }
         self.grow()
     }
 
-    /// Adds the clause that was read, each literal once. Returns its slot.
-    pub(crate) fn put(&mut self, read: &ReadClause) -> Result<Slot, CutFault> {
-        let hash = read.hash(self.seed);
-        let slot = self.slots.put(&read.lits, width_of(read)?, hash)?;
+    /// Adds the clause that was read, by its text. Returns its slot.
+    pub(crate) fn put(&mut self, text: &[u8], read: &ReadClause) -> Result<Slot, CutFault> {
+        let slot = self.slots.put(text, read.hash)?;
         if self.slots.count() > self.buckets.len() {
             self.grow()?;
         } else {
@@ -65,6 +72,7 @@ impl LiveClauses {
 
     /// Makes as many buckets as there are live clauses, or up to twice as many, and enters all of
     /// these.
+    #[cold]
     fn grow(&mut self) -> Result<(), AllocError> {
         let count = self.slots.count().max(LiveClauses::FIRST_SIZE);
         let size = count.checked_next_power_of_two().unwrap_or(usize::MAX);
@@ -89,21 +97,17 @@ impl LiveClauses {
         }
     }
 
-    /// Takes out and returns a clause with just the literals that were read that is no reason, if
-    /// there is one.
+    /// Takes out and returns a clause with the literals that were read that is no reason, if there
+    /// is one.
     pub(crate) fn take(&mut self, read: &ReadClause) -> Option<Slot> {
-        let hash = read.hash(self.seed);
         let mut before: Option<Slot> = None;
-        let mut at = *bucket_of(&mut self.buckets, hash)?;
+        let mut at = *bucket_of(&mut self.buckets, read.hash)?;
         for _ in 0..self.slots.len() {
             let slot = at.get()?;
             let entry = self.slots.get(slot)?;
             let next = entry.next;
-            if entry.hash == hash
-                && !entry.is_reason
-                && read.is_same(&entry.lits, entry.width as usize)
-            {
-                self.leave(before, next, hash);
+            if entry.hash == read.hash && !entry.is_reason {
+                self.leave(before, next, read.hash);
                 return Some(slot);
             }
             before = Some(slot);
@@ -113,7 +117,7 @@ impl LiveClauses {
     }
 
     /// Takes a clause out of its bucket, between the one before it and the one after it.
-    fn leave(&mut self, before: Option<Slot>, next: SlotLink, hash: u32) {
+    fn leave(&mut self, before: Option<Slot>, next: SlotLink, hash: ClauseHash) {
         match before {
             Some(before) => {
                 if let Some(entry) = self.slots.get_mut(before) {
@@ -129,13 +133,9 @@ impl LiveClauses {
     }
 }
 
-/// Returns how many literals a clause has that was read.
-fn width_of(read: &ReadClause) -> Result<u32, CutFault> {
-    u32::try_from(read.lits.len()).map_err(|_| CutFault::TooMany)
-}
-
 /// Returns the bucket of a hash, if there is one.
-fn bucket_of(buckets: &mut Vec<SlotLink>, hash: u32) -> Option<&mut SlotLink> {
+#[inline(always)]
+fn bucket_of(buckets: &mut Vec<SlotLink>, hash: ClauseHash) -> Option<&mut SlotLink> {
     let mask = buckets.len().wrapping_sub(1);
-    buckets.get_mut(hash as usize & mask)
+    buckets.get_mut((hash.0 >> 32) as usize & mask)
 }

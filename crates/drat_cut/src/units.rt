@@ -2,16 +2,18 @@
 use crate::fault::CutFault;
 use crate::slots::{Entry, Slot, Slots};
 use crate::watches::Watches;
+use crate::words::{Word, word_at};
 use clause_table::Values;
 use sat_formula::Lit;
 use std::alloc::Global;
 
 /// The status of a clause under the assignment.
+#[derive(Clone, Copy)]
 enum Standing {
     True,
     False,
     Unit(Lit),
-    /// These two literals are not false, and all others before this position are.
+    /// These two literals are not false, and all others before this place of the text are.
     Open(Lit, Lit, usize),
 }
 
@@ -22,6 +24,8 @@ pub(crate) struct Units {
     /// How many literals the attached clauses have.
     stored: u64,
     watches: Watches,
+    /// Those that are watched by the literal that became false.
+    listed: Vec<Slot>,
     /// Some clause is false.
     pub(crate) conflict: bool,
 }
@@ -32,12 +36,13 @@ impl Units {
             values: Values::new(alloc),
             stored: 0,
             watches: Watches::new(alloc),
+            listed: Vec::new(alloc),
             conflict: false,
         }
     }
 
-    /// Returns the status of a clause, by its watched literals and those from its open position on.
-    fn standing(&self, entry: &Entry) -> Standing {
+    /// Returns the status of a clause, by its watched literals and those from its open place on.
+    fn standing(&self, entry: &Entry, text: &[u8]) -> Standing {
         let mut kept = match entry.watched {
             Some((first, second)) if self.values.is_true(!first) => self.unfalsified(second),
             Some((first, _)) => Some(first),
@@ -48,8 +53,19 @@ impl Units {
                 return Standing::True;
             }
         }
-        for place in entry.open_from..entry.lits.len() {
-            let lit = entry.lits[place];
+        let mut place = entry.open_from;
+        for _ in entry.open_from..text.len() {
+            let lit = match word_at(text, place) {
+                Word::Literal(lit, next) => {
+                    place = next;
+                    lit
+                }
+                Word::Blank(next) => {
+                    place = next;
+                    continue;
+                }
+                _ => break,
+            };
             if self.values.is_true(lit) {
                 return Standing::True;
             }
@@ -58,7 +74,7 @@ impl Units {
             }
             match kept {
                 None => kept = Some(lit),
-                Some(first) => return Standing::Open(first, lit, place.saturating_add(1)),
+                Some(first) => return Standing::Open(first, lit, place),
             }
         }
         match kept {
@@ -76,15 +92,20 @@ impl Units {
         }
     }
 
-    /// Attaches a clause, and propagates what it implies, unless there was a conflict.
-    pub(crate) fn attach(&mut self, slots: &mut Slots, slot: Slot) -> Result<(), CutFault> {
+    /// Attaches a clause of this many literals, and propagates what it implies, unless there was a
+    /// conflict.
+    pub(crate) fn attach(
+        &mut self,
+        slots: &mut Slots,
+        slot: Slot,
+        width: usize,
+    ) -> Result<(), CutFault> {
         if self.conflict {
             return Ok(());
         }
-        if let Some(entry) = slots.get(slot) {
-            self.stored = self.stored.saturating_add(entry.lits.len() as u64);
-            self.values.allow(self.stored);
-        }
+        self.stored = self.stored.saturating_add(width as u64);
+        self.values.allow(self.stored);
+        self.watches.make_room(slots, slot)?;
         let from = self.values.len();
         self.settle(slots, slot)?;
         self.propagate(slots, from)
@@ -92,21 +113,20 @@ impl Units {
 
     /// Removes the watches of a clause that is no reason.
     pub(crate) fn detach(&mut self, slots: &Slots, slot: Slot) {
-        let Some(entry) = slots.get(slot) else {
-            return;
-        };
-        if let Some((first, second)) = entry.watched {
-            self.watches.remove(first, slot);
-            self.watches.remove(second, slot);
+        if let Some((first, second)) = slots.get(slot).and_then(|entry| entry.watched) {
+            self.watches.leave(slot, first, second);
         }
     }
 
-    /// Watches a clause that is not watched, if it is open, or assigns its literal, if it is unit.
+    /// Watches a clause that is in no list, if it is open, or assigns its literal, if it is unit.
     fn settle(&mut self, slots: &mut Slots, slot: Slot) -> Result<(), CutFault> {
+        let Some(entry) = slots.get(slot) else {
+            return Ok(());
+        };
+        let standing = self.standing(entry, slots.text(slot));
         let Some(entry) = slots.get_mut(slot) else {
             return Ok(());
         };
-        let standing = self.standing(entry);
         entry.watched = None;
         match standing {
             Standing::True => {}
@@ -118,8 +138,7 @@ impl Units {
             Standing::Open(first, second, place) => {
                 entry.watched = Some((first, second));
                 entry.open_from = place;
-                self.watches.push(first, slot)?;
-                self.watches.push(second, slot)?;
+                self.watches.enter(slot, first, second);
             }
         }
         Ok(())
@@ -142,27 +161,22 @@ impl Units {
 
     /// Settles the clauses that watch a literal which became false.
     fn falsify(&mut self, slots: &mut Slots, lit: Lit) -> Result<(), CutFault> {
-        let Some(list) = self.watches.take(lit) else {
-            return Ok(());
-        };
-        for slot in &list {
-            self.unwatch_other(slots, *slot, lit);
-            self.settle(slots, *slot)?;
+        self.watches.list(slots, lit, &mut self.listed)?;
+        for number in 0..self.listed.len() {
+            let Some(slot) = self.listed.get(number).copied() else {
+                break;
+            };
+            if slots
+                .get(slot)
+                .is_some_and(|entry| entry.is_watched_by(lit))
+            {
+                self.detach(slots, slot);
+                self.settle(slots, slot)?;
+            }
             if self.conflict {
                 break;
             }
         }
         Ok(())
-    }
-
-    /// Removes the other watch of a clause that was watched by this literal.
-    fn unwatch_other(&mut self, slots: &Slots, slot: Slot, lit: Lit) {
-        let Some(entry) = slots.get(slot) else {
-            return;
-        };
-        if let Some((first, second)) = entry.watched {
-            let other = if first == lit { second } else { first };
-            self.watches.remove(other, slot);
-        }
     }
 }

@@ -23,7 +23,7 @@ pub const ABOUT: About<'static> = About {
         },
         Entry {
             name: "--lemmas N",
-            text: "lemmas of a piece, at least, except of the last one (default: 20000)",
+            text: "lemmas of a piece, at least, except of the last one; fewer, down to half, by those that the one before has too many (default: 20000)",
         },
         Entry {
             name: "--live N",

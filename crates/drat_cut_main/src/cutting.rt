@@ -3,8 +3,7 @@ use crate::fault::CutFailure;
 use crate::files::PieceFiles;
 use crate::piece::{Limits, Piece};
 use command::WrittenFiles;
-use drat_cut::{Additions, Cutter, Taken};
-use drat_text::{DratReader, DratStep};
+use drat_cut::{Additions, Cutter, ProofSteps, Taken};
 use log::Log;
 use sat_formula::DimacsReader;
 use std::alloc::Global;
@@ -26,13 +25,15 @@ pub fn cut<F: Read + Drop, P: Read + Drop, L: Log>(
 ) -> Result<bool, CutFailure> {
     let mut cutter = Cutter::new(alloc, additions);
     read_formula(alloc, cnf, &mut cutter)?;
-    files.write_live(1, &mut cutter)?;
-    let mut reader = DratReader::new(alloc, proof);
-    // The pieces are fewer: each has a step, and the reader counts its bytes in 64 bits.
-    for piece in 1..u64::MAX {
-        if !write_piece(told, piece, &mut cutter, &mut reader, limits, files)? {
+    files.write_live(1, &cutter)?;
+    let mut steps = ProofSteps::new(alloc, proof);
+    let mut piece = Piece::new(limits, cutter.live_count());
+    // The pieces are fewer: each has a step.
+    for number in 1..u64::MAX {
+        if !write_piece(told, number, &mut piece, &mut cutter, &mut steps, files)? {
             break;
         }
+        piece = piece.next(cutter.live_count());
     }
     Ok(cutter.has_conflict())
 }
@@ -60,16 +61,15 @@ fn read_formula<F: Read + Drop>(
 fn write_piece<P: Read + Drop, L: Log>(
     told: &L,
     number: u64,
+    piece: &mut Piece,
     cutter: &mut Cutter,
-    reader: &mut DratReader<P>,
-    limits: Limits,
+    steps: &mut ProofSteps<P>,
     files: &PieceFiles<'_>,
 ) -> Result<bool, CutFailure> {
     let name = files.name(number, "drat")?;
     let mut written = WrittenFiles::new(files.rt);
     let mut out = files.create(&mut written, name.as_str())?;
-    let mut piece = Piece::new(limits, cutter.live_count());
-    let goes_on = write_steps(&mut piece, cutter, reader, &mut out)?;
+    let goes_on = write_steps(piece, cutter, steps, &mut out)?;
     if goes_on {
         files.write_live(number.saturating_add(1), cutter)?;
     }
@@ -83,21 +83,22 @@ fn write_piece<P: Read + Drop, L: Log>(
 fn write_steps<P: Read + Drop, W: Write>(
     piece: &mut Piece,
     cutter: &mut Cutter,
-    reader: &mut DratReader<P>,
+    steps: &mut ProofSteps<P>,
     out: &mut W,
 ) -> Result<bool, CutFailure> {
-    // The steps are fewer: the reader counts its bytes in 64 bits.
+    // The steps are fewer: each has a byte.
     for _ in 0..u64::MAX {
-        let taken = cutter.take()?;
-        piece.take(taken, cutter.live_count());
-        if taken != Taken::Nothing {
-            out.write_all(cutter.step_text())?;
+        if let Some(step) = steps.step() {
+            let taken = cutter.take(&step)?;
+            piece.take(taken, cutter.live_count());
+            if taken != Taken::Nothing {
+                cutter.write_step(&step, out)?;
+            }
         }
-        let Some(step) = reader.next_step()? else {
+        if !steps.advance()? {
             break;
-        };
-        let deletes = matches!(step, DratStep::Delete(_));
-        cutter.read(step)?;
+        }
+        let deletes = steps.step().is_some_and(|step| step.deletes);
         if piece.is_done(cutter.live_count(), deletes) && !cutter.has_conflict() {
             return Ok(true);
         }

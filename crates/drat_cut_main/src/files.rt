@@ -56,7 +56,7 @@ impl<'a> PieceFiles<'a> {
     }
 
     /// Writes the clauses that live before a piece.
-    pub fn write_live(&self, piece: u64, cutter: &mut Cutter) -> Result<(), CutFailure> {
+    pub fn write_live(&self, piece: u64, cutter: &Cutter) -> Result<(), CutFailure> {
         let name = self.name(piece, "cnf")?;
         let mut files = WrittenFiles::new(self.rt);
         let mut out = self.create(&mut files, name.as_str())?;

@@ -5,7 +5,7 @@ use drat_cut::Taken;
 /// The points at which pieces may end.
 #[derive(Clone, Copy)]
 pub struct Limits {
-    /// After at least this many lemmas.
+    /// After at least this many lemmas, less those that the piece before had above its number.
     lemmas: u64,
     /// With at most this many live clauses; `None` is twice as many as the piece has lemmas.
     live: Option<u64>,
@@ -35,6 +35,8 @@ fn number_of(word: &str) -> Option<u64> {
 #[derive(Clone, Copy)]
 pub struct Piece {
     limits: Limits,
+    /// How many lemmas it has at least.
+    least: u64,
     /// How many lemmas it has.
     pub lemmas: u64,
     /// The most clauses that lived in it at once.
@@ -44,13 +46,26 @@ pub struct Piece {
 }
 
 impl Piece {
-    /// Returns a piece that begins with this many live clauses.
+    /// Returns the first piece, which begins with this many live clauses.
     pub fn new(limits: Limits, live: usize) -> Piece {
         Piece {
             limits,
+            least: limits.lemmas,
             lemmas: 0,
             most: live as u64,
             deleted: false,
+        }
+    }
+
+    /// Returns the piece behind this one, with this many live clauses between them. What this one
+    /// has too much the next one has less, down to half, so that the pieces are as many as expected
+    /// although they end only where deletions do.
+    pub fn next(self, live: usize) -> Piece {
+        let surplus = self.lemmas.saturating_sub(self.least);
+        let lemmas = self.limits.lemmas;
+        Piece {
+            least: lemmas.saturating_sub(surplus.min(lemmas / 2)),
+            ..Piece::new(self.limits, live)
         }
     }
 
@@ -58,7 +73,7 @@ impl Piece {
     /// the most that lived is gone or the piece has become long, and few clauses live, so that the
     /// written clauses stay few compared with the proof.
     pub fn is_done(&self, live: usize, deletes_next: bool) -> bool {
-        let least = self.limits.lemmas;
+        let least = self.least;
         if !self.deleted || deletes_next || self.lemmas < least {
             return false;
         }
