@@ -5,7 +5,7 @@ use drat_text::DratFault;
 use std::alloc::{AllocError, Global};
 use std::io::{Chain, Cursor, Read};
 
-const CAPACITY: usize = 1 << 16;
+const CAPACITY: usize = 1 << 15;
 
 /// More bytes are not held at once.
 const MOST: usize = 1 << 20;

@@ -48,9 +48,9 @@ impl ReadClause {
     /// Reads a clause. The seed selects its hash.
     pub(crate) fn read(&mut self, clause: &[Lit], seed: u64) -> Result<(), AllocError> {
         self.seen.begin(self.var_count)?;
-        let (mut differ, mut hash, mut count) = (true, ClauseHash::EMPTY, self.var_count);
+        let differ = self.seen.differ(clause);
+        let (mut hash, mut count) = (ClauseHash::EMPTY, self.var_count);
         for lit in clause {
-            differ &= self.seen.is_new(*lit);
             hash = hash.with(*lit, seed);
             count = count.max(lit.index().saturating_add(1));
         }

@@ -92,7 +92,7 @@ impl Cutter {
         self.text.clear();
         push_clause(&mut self.text, clause)?;
         let slot = self.live.put_formula_clause(&self.text, clause)?;
-        self.units.attach(&mut self.live.slots, slot, clause.len())
+        self.units.attach(&mut self.live.slots, slot, clause)
     }
 
     /// Takes a step of the proof, and returns its effect.
@@ -124,8 +124,8 @@ impl Cutter {
             Some(text) if self.read.is_as_written => self.live.put(text, &self.read)?,
             _ => self.put_written()?,
         };
-        let width = self.read.lits.len();
-        self.units.attach(&mut self.live.slots, slot, width)?;
+        let lits = &self.read.lits;
+        self.units.attach(&mut self.live.slots, slot, lits)?;
         Ok(Taken::Lemma)
     }
 

@@ -23,7 +23,7 @@ impl SeenVars {
         }
     }
 
-    /// Begins a clause, and makes a place for each of so many variables, up to the last size.
+    /// Begins a clause, and makes a place for each of these variables, up to the last size.
     pub(crate) fn begin(&mut self, vars: usize) -> Result<(), AllocError> {
         let wanted = vars.clamp(SeenVars::FIRST_SIZE, SeenVars::LAST_SIZE);
         if wanted > self.rounds.len() || self.round == u32::MAX {
@@ -36,16 +36,22 @@ impl SeenVars {
         Ok(())
     }
 
-    /// Notes the variable of a literal. Returns whether none with its place was seen in the clause.
-    #[inline(always)]
-    pub(crate) fn is_new(&mut self, lit: Lit) -> bool {
+    /// Notes the variables of these literals. Returns whether each has a place in which none was
+    /// seen in the clause.
+    pub(crate) fn differ(&mut self, lits: &[Lit]) -> bool {
+        let round = self.round;
         let mask = self.rounds.len().wrapping_sub(1);
-        match self.rounds.get_mut(lit.index() & mask) {
-            Some(round) if *round != self.round => {
-                *round = self.round;
-                true
+        let rounds = self.rounds.as_mut_slice();
+        let mut differ = true;
+        for lit in lits {
+            match rounds.get_mut(lit.index() & mask) {
+                Some(last) => {
+                    differ &= *last != round;
+                    *last = round;
+                }
+                None => differ = false,
             }
-            _ => false,
         }
+        differ
     }
 }

@@ -210,7 +210,7 @@ fn find(bytes: &[u8], lits: &mut Vec<Lit>) -> Result<Found, AllocError> {
     let Some(begin) = step_begin(bytes) else {
         return Ok(Found::Open);
     };
-    let deletes = bytes[begin] == b'd';
+    let deletes = bytes.get(begin) == Some(&b'd');
     let first = begin.saturating_add(deletes as usize);
     match push_literals_at(lits, bytes, first)? {
         ClauseEnd::Zero(place) => Ok(Found::Step(Place {

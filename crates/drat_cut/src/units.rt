@@ -92,23 +92,47 @@ impl Units {
         }
     }
 
-    /// Attaches a clause of this many literals, and propagates what it implies, unless there was a
+    /// Attaches a clause of these literals, and propagates what it implies, unless there was a
     /// conflict.
     pub(crate) fn attach(
         &mut self,
         slots: &mut Slots,
         slot: Slot,
-        width: usize,
+        lits: &[Lit],
     ) -> Result<(), CutFault> {
         if self.conflict {
             return Ok(());
         }
-        self.stored = self.stored.saturating_add(width as u64);
+        self.stored = self.stored.saturating_add(lits.len() as u64);
         self.values.allow(self.stored);
         self.watches.make_room(slots, slot)?;
+        if self.watch_first(slots, slot, lits) {
+            return Ok(());
+        }
         let from = self.values.len();
         self.settle(slots, slot)?;
         self.propagate(slots, from)
+    }
+
+    /// Watches a clause by its first two literals, if they differ and have no value. Returns
+    /// whether that is done.
+    fn watch_first(&mut self, slots: &mut Slots, slot: Slot, lits: &[Lit]) -> bool {
+        let [first, second, ..] = lits else {
+            return false;
+        };
+        if first == second || self.has_value(*first) || self.has_value(*second) {
+            return false;
+        }
+        if let Some(entry) = slots.get_mut(slot) {
+            entry.watched = Some((*first, *second));
+            self.watches.enter(slot, *first, *second);
+        }
+        true
+    }
+
+    /// Returns whether a literal is true or false.
+    fn has_value(&self, lit: Lit) -> bool {
+        self.values.is_true(lit) || self.values.is_true(!lit)
     }
 
     /// Removes the watches of a clause that is no reason.

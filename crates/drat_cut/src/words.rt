@@ -1,6 +1,4 @@
 //! Words of a text, and its steps, from bytes that are read ahead.
-ghost use Rattle.std.specs.Prelude.{◌<◌, IfSome, length};
-
 use drat_text::number::{begins_comment, is_space};
 use sat_formula::Lit;
 use sat_formula::bytes::is_digit;
@@ -27,13 +25,17 @@ pub(crate) enum Word {
 /// Returns the word that begins at a place.
 #[inline(always)]
 pub(crate) fn word_at(bytes: &[u8], from: usize) -> Word {
-    let negative = bytes.get(from).copied() == Some(b'-');
+    let rest = bytes.get(from..).unwrap_or(&[]);
+    let (negative, digits) = match rest {
+        [b'-', digits @ ..] => (true, digits),
+        _ => (false, rest),
+    };
     let first = from.wrapping_add(negative as usize);
     let mut value = 0u32;
-    for place in first..bytes.len() {
-        let byte = bytes[place];
+    for count in 0..digits.len() {
+        let byte = digits[count];
         if !is_digit(byte) {
-            return word_before(byte, negative, value, first, place);
+            return word_before(byte, negative, value, count, first.wrapping_add(count));
         }
         value = value
             .wrapping_mul(10)
@@ -42,10 +44,9 @@ pub(crate) fn word_at(bytes: &[u8], from: usize) -> Word {
     Word::Open
 }
 
-/// Returns the word of the digits from one place to another, before a byte.
+/// Returns the word of a value with this many digits, before the byte at a place.
 #[inline(always)]
-fn word_before(byte: u8, negative: bool, value: u32, first: usize, place: usize) -> Word {
-    let digits = place.wrapping_sub(first);
+fn word_before(byte: u8, negative: bool, value: u32, digits: usize, place: usize) -> Word {
     if !is_space(byte) || digits > MOST_DIGITS {
         return Word::Other;
     }
@@ -58,9 +59,7 @@ fn word_before(byte: u8, negative: bool, value: u32, first: usize, place: usize)
 }
 
 /// Returns the place of the first byte of a step: blanks and comments before it are passed over.
-pub(crate) fn step_begin(bytes: &[u8]) -> Option<usize>
-    ensures { IfSome result (λ place. place < length bytes.now) }
-{
+pub(crate) fn step_begin(bytes: &[u8]) -> Option<usize> {
     let mut in_comment = false;
     for place in 0..bytes.len() {
         let byte = bytes[place];
