@@ -207,7 +207,7 @@ module _ {F : Type 0} (contents : F → Option (List ℕ)) (file : Option F) (pl
       ⊎ Leaves place options C (piece_line Carried) text text' old new
       ⊎ Leaves place options R (piece_line Refuted) text text' old new
   leaves C R (Err fault) r failed silent unnamed left some none carried refuted = inl (inl (silent refl, names_none place options old new (unnamed refl)))
-  leaves C R checked (Ok shown) failed silent unnamed left some none carried refuted = absurd failed
+  leaves C R checked (Ok shown) failed silent unnamed left some none carried refuted = absurd (cc)
   leaves C R (Ok verdict) (Err fault) failed silent unnamed (inl left) some none carried refuted =
       inl (inl (left.0, some new (record { verdict = verdict; is = refl; some = left.1 })))
   leaves C R (Ok NotCarried) (Err fault) failed silent unnamed (inr left) some none carried refuted =

@@ -75,7 +75,16 @@ pub(crate) fn show<S: OutputSystem, W: Write>(
         Err(fault) => return Err(unwritten(fault)),
     };
     let line = verdict.line();
-    receipt_files::show(files, call, receipt, Ok(verdict), line, unwritten, given, out)
+    receipt_files::show(
+        files,
+        call,
+        receipt,
+        Ok(verdict),
+        line,
+        unwritten,
+        given,
+        out,
+    )
 }
 
 /// Returns the fault of a verdict that was reached and not shown.

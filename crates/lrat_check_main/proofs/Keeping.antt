@@ -39,7 +39,7 @@ module _ {E F : Type 0} (contents : F → Option (List ℕ)) (place : List ℕ �
       → LeavesReceipt place options (shown_line NotVerified) (shown_line Verified) (IsRefuted text) (refuted_of text) old new given given'
   leaves_proof checked refused said (inl left) none whole = inl (inl left)
   leaves_proof (Ok Verified) refused said (inr left) none whole = let shown = whole refl in
-      inr (inr (rw said at left.0, shown.0, gives_receipt contents place options (refuted_of text) file given given' shown.1 left.1))
+      inr (inr (rw said at left.0, (shown.0, gives_receipt contents place options (refuted_of text) file given given' shown.1 left.1)))
   leaves_proof (Ok NotVerified) refused said (inr left) none whole = let unnamed : file ≡ None = none (λ e. cc) in
       inl (inr (rw said at left.0, rw unnamed at left.1))
   leaves_proof (Err fault) refused said left none whole = inl (inl (refused refl))
@@ -53,9 +53,9 @@ module _ {E F : Type 0} (contents : F → Option (List ℕ)) (place : List ℕ �
       → LeavesPiece place options text wanted old new given given'
   leaves_piece wanted checked refused said (inl left) none carried refuted = inl (inl left)
   leaves_piece wanted (Ok Refuted) refused said (inr left) none carried refuted = let shown = refuted refl in
-      inr (inr (inr (rw said at left.0, shown.0, gives_receipt contents place options (refuted_of text) file given given' shown.1 left.1)))
+      inr (inr (inr (rw said at left.0, (shown.0, gives_receipt contents place options (refuted_of text) file given given' shown.1 left.1))))
   leaves_piece wanted (Ok Carried) refused said (inr left) none carried refuted = let shown = carried refl in
-      inr (inl (inr (rw said at left.0, shown.0, gives_receipt contents place options (carries_of text wanted) file given given' shown.1 left.1)))
+      inr (inl (inr (rw said at left.0, (shown.0, gives_receipt contents place options (carries_of text wanted) file given given' shown.1 left.1))))
   leaves_piece wanted (Ok NotCarried) refused said (inr left) none carried refuted = let unnamed : file ≡ None = none (λ e. cc) in
       inl (inr (rw said at left.0, rw unnamed at left.1))
   leaves_piece wanted (Err fault) refused said left none carried refuted = inl (inl (refused refl))

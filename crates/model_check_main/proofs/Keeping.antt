@@ -25,7 +25,7 @@ pub leaves_answer : {E F : Type 0} (contents : F → Option (List ℕ)) (place :
     → LeavesReceipt place options (codes "s NOT VERIFIED\n") (shown_line Verified) Holds receipt old new given given'
 leaves_answer contents place options Holds receipt file line old new given given' checked refused said (inl left) none whole = inl (inl left)
 leaves_answer contents place options Holds receipt file line old new given given' (Ok Verified) refused said (inr left) none whole = let shown = whole refl in
-    inr (inr (rw said at left.0, shown.0, gives_receipt contents place options receipt file given given' shown.1 left.1))
+    inr (inr (rw said at left.0, (shown.0, gives_receipt contents place options receipt file given given' shown.1 left.1)))
 leaves_answer contents place options Holds receipt file line old new given given' (Ok (NotVerified clause at_line)) refused said (inr left) none whole = let unnamed : file ≡ None = none (λ e. cc) in
     inl (inr (rw said at left.0, rw unnamed at left.1))
 leaves_answer contents place options Holds receipt file line old new given given' (Err fault) refused said left none whole = inl (inl (refused refl))

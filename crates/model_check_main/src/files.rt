@@ -64,13 +64,7 @@ pub(crate) fn check_files<S: OutputSystem, W: Write>(
         receipt.is_some(),
     )?;
     let mut lie = None;
-    let checked = run_check(
-        system.alloc(),
-        cnf.held,
-        answer,
-        &mut io::sink(),
-        &mut lie,
-    );
+    let checked = run_check(system.alloc(), cnf.held, answer, &mut io::sink(), &mut lie);
     let said = satisfied_by(cnf.digest);
     let receipt = whole_receipt(system, call, receipt, said, &checked)?;
     let line = line_of(&checked);

@@ -134,9 +134,11 @@ returns-clause-unshown g c text known fresh failed =
     (λ carried named some gives. never_carried c.run_check-checked.result (sym c.as_piece-checked.ensures ∙ carried))
     (λ refuted named some gives.
     let said = c.piece_receipt-said.ensures.refuted text (rw is at c.in_ok-cnf-2.ensures.digest) refuted in
-    let whole = c.in_ok-receipt-2.ensures.written (refuted_of text) said empty (status_in shows_wanted c.as_piece-checked.result Refuted refuted refl) in
-    (c.run_check-checked.ensures.refutes text bytes (whole_refuted c.run_check-checked.result (sym c.as_piece-checked.ensures ∙ refuted)), record {
-      outputs = named;
-      named = some;
-      receipt_named = gives_receipt g.S.Output.Write.contents place options (refuted_of text) c.in_ok-receipt-2.receipt named _ whole gives;
-    })))
+    let whole = c.in_ok-receipt-2.ensures.written (refuted_of text) said empty (status_in shows_wanted c.as_piece-checked.result Refuted refuted refl) in (
+      c.run_check-checked.ensures.refutes text bytes (whole_refuted c.run_check-checked.result (sym c.as_piece-checked.ensures ∙ refuted)),
+      record {
+        outputs = named;
+        named = some;
+        receipt_named = gives_receipt g.S.Output.Write.contents place options (refuted_of text) c.in_ok-receipt-2.receipt named _ whole gives;
+      },
+    )))

@@ -68,15 +68,21 @@ returns-clause-outputs g c text wanted known other fresh well =
     let said = c.piece_receipt-said.ensures.carried text wanted taken taken_next is_carried in
     let whole = c.in_ok-receipt-2.ensures.written (carries_of text wanted) said empty (status_in shows_wanted c.run_piece-checked.result Carried is_carried refl) in (
       c.run_piece-checked.ensures.carries text wanted formula target is_carried,
-      record { outputs = kept.outputs; named = more kept.outputs kept.named;
-      receipt_named = gives_receipt g.S.Output.Write.contents place options (carries_of text wanted) c.in_ok-receipt-2.receipt _ _ whole kept.receipt_named },
+      record {
+        outputs = kept.outputs;
+        named = more kept.outputs kept.named;
+        receipt_named = gives_receipt g.S.Output.Write.contents place options (carries_of text wanted) c.in_ok-receipt-2.receipt _ _ whole kept.receipt_named;
+      },
     ))
     (λ refuted. let is_refuted : c.run_piece-checked.result ≡ Ok Refuted = rw refuted at c.show-outcome.ensures.verdict in
     let said = c.piece_receipt-said.ensures.refuted text taken is_refuted in
     let whole = c.in_ok-receipt-2.ensures.written (refuted_of text) said empty (status_in shows_wanted c.run_piece-checked.result Refuted is_refuted refl) in (
       c.run_piece-checked.ensures.refutes text formula is_refuted,
-      record { outputs = kept.outputs; named = more kept.outputs kept.named;
-      receipt_named = gives_receipt g.S.Output.Write.contents place options (refuted_of text) c.in_ok-receipt-2.receipt _ _ whole kept.receipt_named },
+      record {
+        outputs = kept.outputs;
+        named = more kept.outputs kept.named;
+        receipt_named = gives_receipt g.S.Output.Write.contents place options (refuted_of text) c.in_ok-receipt-2.receipt _ _ whole kept.receipt_named;
+      },
     ))
 
 -- a run with neither status names no receipt
@@ -133,20 +139,24 @@ returns-clause-unshown g c text wanted known other fresh none failed =
     (λ none. ok_none (c.in_ok-receipt-2.ensures.unshown none))
     (λ carried mid some gives.
     let said = c.piece_receipt-said.ensures.carried text wanted taken taken_next carried in
-    let whole = c.in_ok-receipt-2.ensures.written (carries_of text wanted) said empty (status_in shows_wanted c.run_piece-checked.result Carried carried refl) in
-    (c.run_piece-checked.ensures.carries text wanted (ap Some is) (ap Some next) carried, record {
-      outputs = mid;
-      named = some;
-      receipt_named = gives_receipt g.S.Output.Write.contents place options (carries_of text wanted) c.in_ok-receipt-2.receipt mid named whole gives;
-    }))
+    let whole = c.in_ok-receipt-2.ensures.written (carries_of text wanted) said empty (status_in shows_wanted c.run_piece-checked.result Carried carried refl) in (
+      c.run_piece-checked.ensures.carries text wanted (ap Some is) (ap Some next) carried,
+      record {
+        outputs = mid;
+        named = some;
+        receipt_named = gives_receipt g.S.Output.Write.contents place options (carries_of text wanted) c.in_ok-receipt-2.receipt mid named whole gives;
+      },
+    ))
     (λ refuted mid some gives.
     let said = c.piece_receipt-said.ensures.refuted text taken refuted in
-    let whole = c.in_ok-receipt-2.ensures.written (refuted_of text) said empty (status_in shows_wanted c.run_piece-checked.result Refuted refuted refl) in
-    (c.run_piece-checked.ensures.refutes text (ap Some is) refuted, record {
-      outputs = mid;
-      named = some;
-      receipt_named = gives_receipt g.S.Output.Write.contents place options (refuted_of text) c.in_ok-receipt-2.receipt mid named whole gives;
-    }))
+    let whole = c.in_ok-receipt-2.ensures.written (refuted_of text) said empty (status_in shows_wanted c.run_piece-checked.result Refuted refuted refl) in (
+      c.run_piece-checked.ensures.refutes text (ap Some is) refuted,
+      record {
+        outputs = mid;
+        named = some;
+        receipt_named = gives_receipt g.S.Output.Write.contents place options (refuted_of text) c.in_ok-receipt-2.receipt mid named whole gives;
+      },
+    ))
 
 -- a run with the status 0 has shown what its line says
 pub returns-clause-shows : goal.returns-clause-shows

@@ -77,12 +77,12 @@ returns-clause-unshown g c text wanted known other fresh failed =
     (λ carried. (
       c.run_piece-checked.ensures.carries text wanted (ap Some is) (ap Some next) carried,
       c.in_ok-receipt-2.ensures.written (carries_of text wanted) (c.piece_receipt-said.ensures.carried text wanted taken taken_next carried) empty
-      (status_in shows_wanted c.run_piece-checked.result Carried carried refl),
+          (status_in shows_wanted c.run_piece-checked.result Carried carried refl),
     ))
     (λ refuted. (
       c.run_piece-checked.ensures.refutes text (ap Some is) refuted,
       c.in_ok-receipt-2.ensures.written (refuted_of text) (c.piece_receipt-said.ensures.refuted text taken refuted) empty
-      (status_in shows_wanted c.run_piece-checked.result Refuted refuted refl),
+          (status_in shows_wanted c.run_piece-checked.result Refuted refuted refl),
     ))
 
 -- and what it shows
