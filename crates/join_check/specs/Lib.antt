@@ -1,3 +1,4 @@
+pub mod Carriers
 pub mod Digests
 pub mod Hashed
 pub mod Parts
