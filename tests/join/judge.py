@@ -14,6 +14,7 @@ import itertools
 import os
 import random
 import re
+import resource
 import subprocess
 import sys
 import tempfile
@@ -92,7 +93,7 @@ class Tries:
         said = done.returncode, done.stdout, done.stderr
         if said != wanted:
             self.wrong += 1
-            print(f"{kind}: {said}, and not {wanted}: {files}")
+            print(f"{kind}: {said}, and not {wanted}: {str(files)[:4000]}")
 
     def judged(self, kind, formula, cubes, receipts, missing):
         """The receipts, in any order, of a formula that is split, and the first part that is not shown."""
@@ -209,18 +210,28 @@ def recipe(tries):
     tries.wants("the command of SCALE", files, ["-c", command], 0, verified(3), "", program="sh", env={**os.environ, "PATH": path})
 
 
-def many(tries):
-    """Every cube of eleven variables, and a chain of 2000 pieces, which stands in the order that is worst."""
+def many_cubes(tries):
+    """Every cube of eleven variables."""
     count = 11
     cubes = [[name * sign for name, sign in zip(range(1, count + 1), signs)] for signs in itertools.product((1, -1), repeat=count)]
     formula = [[count + 1], [-count - 1]]
     receipts = [refuted(part_text(clauses)) for _, clauses in parts(formula, cubes)]
     tries.judged("many cubes", dimacs(formula), lines(cubes), receipts, None)
     tries.judged("many cubes", dimacs(formula), lines(cubes), receipts[:-1], "the closing part")
-    names = [f"p cnf {number} 0\n" for number in range(2000)]
-    chain = [*map(carries, names, names[1:]), refuted(names[-1])]
-    for receipts in chain, chain[::-1]:
-        tries.wants("many pieces", {"formula": names[0], "receipts": "".join(receipts)}, ["formula", "receipts"], 0, verified(2000), "")
+
+
+def many_pieces(tries, dice):
+    """Chains of pieces, from the first to the last, as `pieces` writes them, from the last to the first, and shuffled: how long they take is
+    to grow with their number, where it grows by eight, and not with its square. The margins are wide, since a machine may do more beside."""
+    for order in (lambda chain: chain, lambda chain: chain[::-1], lambda chain: dice.sample(chain, len(chain))):
+        took = []
+        for count in (12500, 25000, 50000, 100000):
+            names = [f"p cnf {number} 0\n" for number in range(count)]
+            receipts = order([*map(carries, names, names[1:]), refuted(names[-1])])
+            begin = resource.getrusage(resource.RUSAGE_CHILDREN).ru_utime
+            tries.wants("many pieces", {"formula": names[0], "receipts": "".join(receipts)}, ["formula", "receipts"], 0, verified(count), "")
+            took.append(resource.getrusage(resource.RUSAGE_CHILDREN).ru_utime - begin)
+        tries.same("pieces in 2 s, and eight times as many in 24 times the time", took[-1] <= min(2, 24 * max(took[0], 0.02)), True)
 
 
 def main(program, count, seed):
@@ -232,7 +243,8 @@ def main(program, count, seed):
             graph(tries, dice)
         malformed(tries)
         recipe(tries)
-        many(tries)
+        many_cubes(tries)
+        many_pieces(tries, dice)
     print("; ".join(f"{kind}: {times}" for kind, times in tries.tried.items()))
     if tries.wrong:
         print(f"{tries.wrong} wrong")

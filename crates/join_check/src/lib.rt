@@ -5,6 +5,7 @@
 //! honest, what they show together is proved here.
 #![tactic(auto)]
 
+mod carriers;
 mod digests;
 mod fault;
 mod judging;
