@@ -4,7 +4,7 @@
 #   tests/listed_files.sh [PROGRAM ..]
 #
 # The rows are `tests/listed_files/PROGRAM.runs`. They are tried over the program's own sources by `rt try`, which proves nothing: a proof of
-# them would prove each program a second time. Those of `model_check` are in its crate, and are proved.
+# them would prove each program a second time.
 set -euo pipefail
 . "$(dirname "$0")/lib.sh"
 programs=("$@")

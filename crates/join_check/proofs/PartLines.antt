@@ -3,7 +3,6 @@ use Rattle.std.proofs.Common.{◌≡◌, ℕ, List, [], ◌∷◌, ◌++◌, map
 use Rattle.std.specs.Prelude.{All}
 use Rattle.std.proofs.lemmas.List.Elements.{All-append, All-cons, All-map, All-nil, All-weaker}
 use Rattle.refutation_rules.specs.Cubes.{clause_against, units_of}
-use Rattle.receipts.specs.Joins.{part_text}
 use Rattle.sat_output.specs.FormulaTexts.{ClausesAreRead, clause_text, clauses_text}
 use Rattle.written_numbers.specs.Words.{IsCode}
 use Rattle.sat_rules.specs.Clauses.{negate}

@@ -1,14 +1,15 @@
 -- The parts of a formula, cube after cube.
-use Rattle.std.proofs.Common.{◌≡◌, ℕ, Bool, true, false, List, [], ◌∷◌, ◌++◌, map, ap, sym, ◌∙◌, append_assoc}
+use Rattle.std.proofs.Common.{◌≡◌, ℕ, true, false, List, [], ◌∷◌, ◌++◌, map, ap, sym, ◌∙◌, append_assoc}
 use Rattle.std.specs.Prelude.{All}
 use Rattle.std.proofs.lemmas.Bool.{false≢true}
 use Rattle.std.proofs.lemmas.List.Elements.{All-append, All-cons, All-map, All-nil}
 use Rattle.refutation_rules.specs.Cubes.{clause_against, units_of}
-use Rattle.receipts.specs.Joins.{IsPartShown, part_text, parts_of}
+use Rattle.receipts.specs.Joins.{parts_of}
 use Rattle.receipts.specs.declared.receipt.Receipt.{Receipt}
 use Rattle.sha2.specs.Sha256.{sha256}
 use Rattle.join_check.specs.Digests.{HasShown, is_shown}
 use Rattle.join_check.specs.Parts.{ArePartTexts, IsPartDigest}
+use Rattle.join_check.specs.Shown.{IsPartShown, part_text}
 use Rattle.join_check.specs.Verdicts.{IsUnshown}
 use Rattle.join_check.specs.declared.digests.ShownDigests.{ShownDigests}
 use Rattle.join_check.specs.declared.part_texts.PartTexts.{PartTexts}

@@ -6,6 +6,7 @@ use Rattle.sha2.specs.Sha256.{sha256}
 use Rattle.sat_formula.specs.Lines.{outcome_of}
 use Rattle.sat_formula.specs.Outcome.{Ended}
 use Rattle.sat_formula.specs.Whole.{IsOutcome}
+use Rattle.sat_output.specs.FormulaTexts.{clauses_text}
 use Rattle.receipts.specs.Joins.{PartsAreRefuted, ShownIsRefuted}
 use Rattle.receipts.specs.Lines.{receipts_text}
 use Rattle.receipts.specs.declared.receipt.Receipt.{Receipt}
@@ -97,5 +98,5 @@ refuted_by_parts shows cnf cubes said text split lines count e d f h =
       whole = known.whole;
       split = known.split;
       parted = known.parted;
-      refutes = λ text_of honest stands. (known.formula, known.whole, shows text_of known.receipts known.formula known.split honest stands known.shown.1);
+      refutes = λ text_of honest stands. (known.formula, known.whole, shows clauses_text text_of known.receipts known.formula known.split honest stands known.shown.1);
     }

@@ -8,7 +8,7 @@ use Rattle.sat_formula.specs.Lines.{outcome_of}
 use Rattle.sat_formula.specs.Outcome.{Ended}
 use Rattle.sat_output.specs.FormulaTexts.{clauses_text}
 use Rattle.written_numbers.specs.Words.{IsCode}
-use Rattle.receipts.specs.Joins.{part_text}
+use Rattle.join_check.specs.Shown.{part_text}
 use Rattle.join_check.specs.declared.part_texts.PartTexts.{PartTexts}
 
 -- the hasher has taken these lines, and all literals can be read

@@ -6,9 +6,10 @@ use Rattle.sat_formula.specs.Lines.{outcome_of}
 use Rattle.sat_formula.specs.Outcome.{Ended}
 use Rattle.sat_formula.specs.Refuted.{IsRefuted}
 use Rattle.receipts.specs.Honesty.{IsHonest, StandsFor}
-use Rattle.receipts.specs.Joins.{part_text, parts_of}
+use Rattle.receipts.specs.Joins.{parts_of}
 use Rattle.receipts.specs.Lines.{receipts_text}
 use Rattle.receipts.specs.declared.receipt.Receipt.{Receipt}
+use Rattle.join_check.specs.Shown.{part_text}
 
 -- `text_of` gives the text that was meant by each digest
 pub record IsRefutedByReceipts (said text : List ℕ) : Type 0 where

@@ -9,8 +9,9 @@
 use Rattle.std.specs.Prelude.{◌≡◌, ℕ, ◌+◌, Bool, true, false, List, [], ◌∷◌, ◌++◌, length, map, codes, decimal, All, Option, Some, None}
 use Rattle.sha2.specs.Sha256.{sha256}
 use Rattle.refutation_rules.specs.Cubes.{clause_against, units_of}
-use Rattle.receipts.specs.Joins.{IsPartShown, IsShown, part_text, parts_of}
+use Rattle.receipts.specs.Joins.{IsShown, parts_of}
 use Rattle.receipts.specs.declared.receipt.Receipt.{Receipt}
+use Rattle.join_check.specs.Shown.{IsPartShown, part_text}
 use Rattle.join_check.specs.declared.verdict.Unshown.TheVariants.{Formula, Cube, Closing}
 use Rattle.join_check.specs.declared.verdict.Verdict.{Verdict}
 use Rattle.join_check.specs.declared.verdict.Verdict.TheVariants.{Verified, NotVerified}

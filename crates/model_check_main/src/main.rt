@@ -16,8 +16,6 @@ ghost use Rattle.receipt_files.specs.Named.{GivesReceipt, satisfied_of};
 
 mod about;
 mod files;
-#[cfg(test)]
-mod tests;
 
 use crate::about::ABOUT;
 use crate::files::check_files;

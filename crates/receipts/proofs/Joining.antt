@@ -8,7 +8,7 @@ use Rattle.refutation_rules.specs.Pieces.{PiecesJoin}
 use Rattle.sat_formula.specs.Outcome.{Outcome}
 use Rattle.sat_formula.specs.Refuted.{IsRefuted}
 use Rattle.receipts.specs.Honesty.{IsHonest, StandsFor}
-use Rattle.receipts.specs.Joins.{IsPartShown, IsShown, LeadsBy, PartsAreRefuted, ShownIsRefuted, part_text, parts_of}
+use Rattle.receipts.specs.Joins.{IsPartShown, IsShown, LeadsBy, PartsAreRefuted, ShownIsRefuted, parts_of}
 use Rattle.receipts.specs.declared.receipt.Receipt.{Receipt}
 use Rattle.receipts.specs.declared.receipt.Receipt.TheVariants.{Refuted, Carries}
 
@@ -32,19 +32,19 @@ units_and_last P (q ∷ qs) last h =
     let rest = units_and_last P qs last (All-tail P (units_of q) (map units_of qs ++ last ∷ []) h) in
     (All-cons (λ cube. P (units_of cube)) q qs (All-head P (units_of q) (map units_of qs ++ last ∷ []) h) rest.0, rest.1)
 
-module _ (shows : ShownIsRefuted) (cover : CubesCover) (text_of : List ℕ → List ℕ) (receipts : List Receipt) (honest : All (IsHonest text_of) receipts) where
-  part : (formula added : List (List ℕ)) → StandsFor text_of (part_text formula added) → IsPartShown receipts formula added → cubes.IsRefuted (formula ++ added)
+module _ (shows : ShownIsRefuted) (cover : CubesCover) (text_for : List (List ℕ) → List ℕ) (text_of : List ℕ → List ℕ) (receipts : List Receipt) (honest : All (IsHonest text_of) receipts) where
+  part : (formula added : List (List ℕ)) → StandsFor text_of (text_for (formula ++ added)) → IsPartShown text_for receipts formula added → cubes.IsRefuted (formula ++ added)
   part formula added stands p =
-      let refuted = shows text_of receipts (part_text formula added) honest stands p.shown in
+      let refuted = shows text_of receipts (text_for (formula ++ added)) honest stands p.shown in
       let same : refuted.0 ≡ formula ++ added = ap (λ (o : Outcome). o.0) (sym refuted.1 ∙ p.read) in
       rw (← same) refuted.2
 
-  each : (formula : List (List ℕ)) (parts : List (List (List ℕ))) → All (λ added. StandsFor text_of (part_text formula added)) parts
-      → All (IsPartShown receipts formula) parts → All (λ added. cubes.IsRefuted (formula ++ added)) parts
+  each : (formula : List (List ℕ)) (parts : List (List (List ℕ))) → All (λ added. StandsFor text_of (text_for (formula ++ added))) parts
+      → All (IsPartShown text_for receipts formula) parts → All (λ added. cubes.IsRefuted (formula ++ added)) parts
   each formula parts stands shown = λ k d lt. part formula _ (stands k d lt) (shown k d lt)
 
-  pub parts : (formula split : List (List ℕ)) → All (λ added. StandsFor text_of (part_text formula added)) (parts_of split)
-      → All (IsPartShown receipts formula) (parts_of split) → cubes.IsRefuted formula
+  pub parts : (formula split : List (List ℕ)) → All (λ added. StandsFor text_of (text_for (formula ++ added))) (parts_of split)
+      → All (IsPartShown text_for receipts formula) (parts_of split) → cubes.IsRefuted formula
   parts formula split stands shown =
       let both = units_and_last (λ added. cubes.IsRefuted (formula ++ added)) split (map clause_against split) (each formula (parts_of split) stands shown) in
       cover formula split both.0 both.1

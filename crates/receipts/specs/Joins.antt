@@ -3,8 +3,7 @@
 --     IsShown receipts digest      they do along some path
 --     ShownIsRefuted      no assignment satisfies the text of such a digest
 --     parts_of cubes      what each part of a formula has in addition to it
---     part_text formula added      the text of a part
---     IsPartShown receipts formula added      the text of this part is read as the part, and its digest is shown
+--     IsPartShown text_for receipts formula added      the text of this part is read as the part, and its digest is shown
 --     PartsAreRefuted      no assignment satisfies a formula whose parts are all shown
 use Rattle.std.specs.Prelude.{◌≡◌, ℕ, List, [], ◌∷◌, ◌++◌, map, All}
 use Rattle.std.specs.List.{Contains}
@@ -14,7 +13,6 @@ use Rattle.refutation_rules.specs.Cubes as cubes
 use Rattle.sat_formula.specs.Lines.{outcome_of}
 use Rattle.sat_formula.specs.Outcome.{Ended}
 use Rattle.sat_formula.specs.Refuted.{IsRefuted}
-use Rattle.sat_output.specs.FormulaTexts.{clauses_text}
 use Rattle.receipts.specs.Honesty.{IsHonest, StandsFor}
 use Rattle.receipts.specs.declared.receipt.Receipt.{Receipt}
 use Rattle.receipts.specs.declared.receipt.Receipt.TheVariants.{Refuted, Carries}
@@ -39,19 +37,15 @@ ShownIsRefuted = (text_of : List ℕ → List ℕ) (receipts : List Receipt) (te
 abbrev pub parts_of : List (List ℕ) → List (List (List ℕ))
 parts_of cubes = map units_of cubes ++ map clause_against cubes ∷ []
 
--- the clauses of the formula, and then those of the part, a line for each, without a header: so all parts begin alike
-abbrev pub part_text : List (List ℕ) → List (List ℕ) → List ℕ
-part_text formula added = clauses_text (formula ++ added)
+-- the text of the part is read as its clauses, and the receipts show its digest; `text_for` gives the text of clauses
+pub record IsPartShown (text_for : List (List ℕ) → List ℕ) (receipts : List Receipt) (formula added : List (List ℕ)) : Type 0 where
+  pub read : outcome_of (text_for (formula ++ added)) ≡ (formula ++ added, Ended)
+  pub shown : IsShown receipts (sha256 (text_for (formula ++ added)))
 
--- the text of the part is read as its clauses, and the receipts show its digest
-pub record IsPartShown (receipts : List Receipt) (formula added : List (List ℕ)) : Type 0 where
-  pub read : outcome_of (part_text formula added) ≡ (formula ++ added, Ended)
-  pub shown : IsShown receipts (sha256 (part_text formula added))
-
--- where the receipts are honest and show the parts of a formula, it is refuted
+-- where the receipts are honest and show the parts of a formula, it is refuted, whatever text there is for clauses
 abbrev pub PartsAreRefuted : Type 0
-PartsAreRefuted = (text_of : List ℕ → List ℕ) (receipts : List Receipt) (formula split : List (List ℕ))
+PartsAreRefuted = (text_for : List (List ℕ) → List ℕ) (text_of : List ℕ → List ℕ) (receipts : List Receipt) (formula split : List (List ℕ))
     → All (IsHonest text_of) receipts
-    → All (λ added. StandsFor text_of (part_text formula added)) (parts_of split)
-    → All (IsPartShown receipts formula) (parts_of split)
+    → All (λ added. StandsFor text_of (text_for (formula ++ added))) (parts_of split)
+    → All (IsPartShown text_for receipts formula) (parts_of split)
     → cubes.IsRefuted formula

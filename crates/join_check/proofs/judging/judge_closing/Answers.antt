@@ -1,5 +1,5 @@
 use Rattle.std.proofs.Common.{refl, sym, ◌∙◌}
-use Rattle.receipts.specs.Joins.{IsPartShown}
+use Rattle.join_check.specs.Shown.{IsPartShown}
 use Rattle.join_check.proofs.Parting.{all_parts, shown_by, unshown_by}
 use Rattle.join_check.proofs.judging.judge_closing.Goals as goal
 

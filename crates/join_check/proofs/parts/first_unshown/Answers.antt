@@ -1,7 +1,7 @@
 use Rattle.std.proofs.Common.{List, ℕ, ◌++◌, ◌∷◌, [], length, ap, sym, ◌∙◌, append-nil, length-append, arith}
 use Rattle.std.proofs.lemmas.List.Elements.{All-push, All-same}
 use Rattle.refutation_rules.specs.Cubes.{units_of}
-use Rattle.receipts.specs.Joins.{IsPartShown}
+use Rattle.join_check.specs.Shown.{IsPartShown}
 use Rattle.join_check.proofs.Parting.{one_over, shown_by, unshown_by}
 use Rattle.join_check.proofs.parts.first_unshown.Goals as goal
 

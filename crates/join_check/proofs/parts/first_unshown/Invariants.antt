@@ -1,7 +1,7 @@
 use Rattle.std.proofs.Common.{◌≡◌, ℕ, List, ◌++◌, length}
 use Rattle.std.specs.Prelude.{All}
 use Rattle.refutation_rules.specs.Cubes.{units_of}
-use Rattle.receipts.specs.Joins.{IsPartShown}
+use Rattle.join_check.specs.Shown.{IsPartShown}
 use Rattle.receipts.specs.declared.receipt.Receipt.{Receipt}
 use Rattle.join_check.specs.Digests.{HasShown}
 use Rattle.join_check.specs.Parts.{ArePartTexts}
