@@ -27,24 +27,20 @@ fn main(rt: HostRuntime) -> ExitCode {
     }
 }
 
-/// Runs the call with these words.
+/// Runs the call with these words. An option alone prints how it is called.
 fn run(rt: &HostRuntime) -> io::Result<u8> {
     let mut words = env::args(rt)?.skip(1);
-    match (words.next(), words.next()) {
-        (Some(cnf), Some(answer)) => {
-            let cnf = File::open(rt, cnf.as_str())?;
-            let answer = File::open(rt, answer.as_str())?;
-            Ok(check(rt.alloc(), cnf, answer, &mut io::writer(rt)))
-        }
-        (Some(word), None) if word.starts_with("--") => {
-            println!(rt; "{USAGE}")?;
-            Ok(0)
-        }
-        _ => {
-            eprintln!(rt; "{USAGE}")?;
-            Ok(2)
-        }
-    }
+    let Some(cnf) = words.next() else {
+        eprintln!(rt; "{USAGE}")?;
+        return Ok(2);
+    };
+    let Some(answer) = words.next() else {
+        eprintln!(rt; "{USAGE}")?;
+        return Ok(if cnf.starts_with("--") { 0 } else { 2 });
+    };
+    let cnf = File::open(rt, cnf.as_str())?;
+    let answer = File::open(rt, answer.as_str())?;
+    Ok(check(rt.alloc(), cnf, answer, &mut io::writer(rt)))
 }
 
 /// Checks an answer, prints the verdict, and returns the exit status.
