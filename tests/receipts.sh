@@ -1,6 +1,7 @@
 #!/usr/bin/env bash
 # Receipts that `lrat_check`, `drat_check` and `model_check` write by `--receipt`: their bytes, by the sums of `sha256sum`; that
-# `join_check` joins them; that no file gets the name without a verdict, or if its line can't be written; and which names are refused.
+# `join_check` joins them; that no file gets the name without a verdict, and no verdict has a line if its receipt can't be written; and
+# which names are refused.
 #
 #   tests/receipts.sh
 #
@@ -34,6 +35,44 @@ none_left() {
   local left
   left=$(find . -name '*.new')
   [[ ! $left ]] || fault "left: $left"
+}
+
+# limited COMMAND..: a run that can write no byte to a file; what it says goes through pipes
+limited() {
+  { (trap '' XFSZ && ulimit -f 0 && exec "$@" 2>&1 1>&3 3>&-) | cat >&2; } 3>&1 | cat
+}
+
+# on_full_disk COMMAND..: a run beside a folder `small` whose disk is full; `left` gets the names of what lies there behind it
+on_full_disk() {
+  unshare --mount --map-root-user bash -c 'mount -t tmpfs -o size=4k none small && head -c 4096 /dev/zero > small/full || exit 9
+"$@"
+status=$?
+ls -A small > left
+exit "$status"' - "$@"
+}
+
+# unwritten LINE COMMAND..: a run that ends with this line, and whose receipt can't be written: nothing is claimed, and an old receipt stays
+unwritten() {
+  local line=$1
+  shift
+  wants 1 '' $'error writing: No space left on device (os error 28)\nin /dev/full' "$@" --receipt /dev/full
+  echo old > receipt
+  wants 1 '' $'error writing: File too large (os error 27)\nin receipt' limited "$@" --receipt receipt
+  holds old
+  wants 2 '' $'cannot open /proc/self/receipt\nNo such file or directory (os error 2)' "$@" --receipt /proc/self/receipt
+  mkdir -p small
+  if unshare --mount --map-root-user true 2> err; then
+    wants 1 '' $'error writing: No space left on device (os error 28)\nin small/receipt' on_full_disk "$@" --receipt small/receipt
+    [[ $(cat left) == full ]] || fault "left on a full disk: $(cat left)"
+  else
+    echo 'no namespaces here: not tried on a full disk'
+  fi
+  # the line comes last, behind a receipt that is whole
+  wants 0 "$(cat receipt.wanted)"$'\n'"$line" '' bash -c '"$@" | cat' - "$@" --receipt /dev/stdout
+  status=0
+  "$@" --receipt receipt > /dev/full 2> err || status=$?
+  [[ $status == 1 && $(cat err) == 'error writing: No space left on device (os error 28)' ]] || fault "$*: a line that can't be written: status $status, $(cat err)"
+  holds "$(cat receipt.wanted)"
 }
 
 # The four clauses over two variables, and three of them.
@@ -80,22 +119,20 @@ kept() {
   # a piece that comes to a conflict carries to nothing
   wants 0 "$UNSAT" '' "$check" four "four.$program" --holds next --receipt receipt
   holds "refuted sha256 $(sum four)"
-  # what was there stays where there is no verdict, or its line can't be written
+  # what was there stays where there is no verdict
   echo old > receipt
   wants 3 "$OPEN" $'clause 1 is not there behind the piece: -1 -2 0\nin missing' \
     "$check" three "piece.$program" --holds missing --receipt receipt
   holds old
   wants 3 "$OPEN" '' "$check" three "piece.$program" --receipt receipt
   holds old
-  status=0
-  "$check" four "four.$program" --receipt receipt > /dev/full 2> err || status=$?
-  [[ $status == 1 ]] || fault "a line that can't be written: status $status"
-  holds old
   rm receipt
   wants 3 "$OPEN" '' "$check" three "piece.$program" --receipt receipt
   [[ ! -e receipt ]] || fault 'a receipt of nothing'
-  wants 1 "$UNSAT" 'error writing: No space left on device (os error 28)' "$check" four "four.$program" --receipt /dev/full
-  wants 0 "$UNSAT"$'\n'"refuted sha256 $(sum four)" '' bash -c "$check four four.$program --receipt /dev/stdout | cat"
+  echo "refuted sha256 $(sum four)" > receipt.wanted
+  unwritten "$UNSAT" "$check" four "four.$program"
+  echo "carries sha256 $(sum three) sha256 $(sum next)" > receipt.wanted
+  unwritten "$PIECE" "$check" three "piece.$program" --holds next
   for name in four ./four "four.$program"; do
     wants 2 '' "cannot open $name"$'\nthe output is a file that is read' "$check" four "four.$program" --receipt "$name"
   done
@@ -127,6 +164,12 @@ case_outputs() {
     wants 0 "$UNSAT" '' drat_check four four.drat "$output" output --receipt receipt
     holds "refuted sha256 $(sum four)"
     wants 2 '' $'cannot open receipt\nboth outputs are one file' drat_check four four.drat "$output" receipt --receipt receipt
+    # no output gets its name where the receipt is not whole
+    echo old > output
+    wants 1 '' $'error writing: No space left on device (os error 28)\nin /dev/full' \
+      drat_check four four.drat "$output" output --receipt /dev/full
+    [[ $(cat output) == old ]] || fault "$output has its name, and the receipt is not whole"
+    none_left
   done
 }
 
@@ -139,6 +182,8 @@ case_answer() {
   wants 3 "$OPEN" 'formula: line 3: clause 3 has no literal of the answer' model_check three other.answer --receipt receipt
   holds old
   wants 2 '' $'cannot open answer\nthe output is a file that is read' model_check three answer --receipt answer
+  echo "satisfied sha256 $(sum three)" > receipt.wanted
+  unwritten "$SAT" model_check three answer
   none_left
 }
 

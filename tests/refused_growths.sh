@@ -130,8 +130,8 @@ run_unmet() {
   echo "an answer that is not met $mode: $((number - 1)) runs, of which $unread met the reading of the arguments"
 }
 
-# run_kept NAME MODE LINE RECEIPT COMMAND..: a run that is to keep a receipt. Where a growth is refused, it says so and leaves no file, also behind its
-# line, where the receipt alone is missing.
+# run_kept NAME MODE LINE RECEIPT COMMAND..: a run that is to keep a receipt. Where a growth is refused, it says so, has no line and leaves no file, also
+# where the receipt alone can't be written.
 run_kept() {
   local name=$1 mode=$2 line=$3 receipt=$4 number unread=0 late=0
   shift 4
@@ -142,7 +142,7 @@ run_kept() {
       break
     elif [[ ! -s $work/err ]] || compgen -G "$work/kept*" > "$work/left"; then
       misjudged "$name $mode=$number: $(compgen -G "$work/kept*")"
-    elif [[ $status == 1 && $(< "$work/err") == 'error writing: out of memory' && $(< "$work/out") == "$line" ]]; then
+    elif [[ $status == 1 && $(< "$work/err") == "error writing: out of memory"$'\n'"in $work/kept" && ! -s $work/out ]]; then
       late=$((late + 1))
     elif ! stopped; then
       misjudged "$name $mode=$number"

@@ -2,7 +2,7 @@
 use Rattle.std.proofs.Common.{◌≡◌, ◌≢◌, ◌∙◌, ℕ, ◌⊎◌, inl, inr, true, List, [], ◌∷◌, Option, Some, None, Result, Ok, Err, ap, refl, subst, sym, rules, is_some, codes, false, option_and_then}
 use Rattle.std.specs.Io.Buffered.{writer_contents}
 use Rattle.std.specs.Io.KnownBytes.{Appends}
-use Rattle.std.specs.Prelude.{IfOk, IsErr, IsNone, IsSome, OnErr}
+use Rattle.std.specs.Prelude.{IfOk, IsErr, IsNone, IsOk, IsSome, OnErr}
 use Rattle.std.specs.declared.io.buffered.BufWriter.{BufWriter}
 use Rattle.command.specs.Calls.{Choice, given, is_given, value_given}
 use Rattle.command.specs.Outputs.{Gives, begun, place_of, written_in}
@@ -12,12 +12,11 @@ use Rattle.drat_check.specs.Pieces.{WritesPiece, WritesShown}
 use Rattle.drat_check.specs.declared.fault.RunFault.{RunFault}
 use Rattle.drat_check.specs.declared.piece_fault.PieceFault.{PieceFault}
 use Rattle.drat_check.specs.declared.outputs.Outputs.{Outputs}
-use Rattle.drat_check_main.specs.Named.{GivesAll, GivesSome, GivesTwo, LeavesUnshown, NamesPiece, NamesProof, NamesSome, ThenReceipt, core_name, form_asked, lrat_name, trim_name}
+use Rattle.drat_check_main.specs.Named.{GivesAll, GivesFirst, GivesSome, GivesTwo, Leaves, LeavesUnshown, NamesPiece, NamesProof, NamesSome, ThenNames, ThenReceipt, core_name, form_asked, lrat_name, trim_name}
 use Rattle.drat_check_main.specs.Pieces.{KeepsPiece, ShowsLine, ShowsPiece, piece_of}
 use Rattle.verdicts.specs.Texts.{CarriesText, OfFormula, OfFormulas}
-use Rattle.receipt_files.specs.Named.{carries_of, refuted_of}
+use Rattle.receipt_files.specs.Named.{NamesReceipt, carries_of, refuted_of}
 use Rattle.sat_formula.specs.Refuted.{IsRefuted}
-use Rattle.sat_output.proofs.Beginnings.{begins_whole}
 use Rattle.sat_output.specs.declared.form.LineForm.{LineForm}
 use Rattle.verdicts.specs.Pieces.{piece_line, shows_wanted}
 use Rattle.verdicts.specs.Statuses.{status_of}
@@ -25,19 +24,10 @@ use Rattle.verdicts.specs.declared.verdict.Verdict.{Verdict}
 use Rattle.verdicts.specs.declared.verdict.Verdict.TheVariants.{Verified, NotVerified}
 use Rattle.verdicts.specs.declared.piece.PieceVerdict.{PieceVerdict}
 use Rattle.verdicts.specs.declared.piece.PieceVerdict.TheVariants.{Refuted, Carried, NotCarried}
+use Rattle.whole_writes.specs.Beginnings.{AppendsBeginning}
 
 abbrev Given : Type 0
 Given = Option (List (List ℕ × List ℕ))
-
--- the status is that of the run
-pub nonzero_from : (n m : ℕ) → n ≡ m → ◌≢◌ {A = Result ℕ ℕ} (Ok n) (Ok 0) → m ≢ 0
-nonzero_from n m e nonzero zero = nonzero (cc)
-
-pub zero_from : (n m : ℕ) → n ≡ m → ◌≡◌ {A = Result ℕ ℕ} (Ok n) (Ok 0) → m ≡ 0
-zero_from n m e well = cc
-
-pub three_from : (n m : ℕ) → n ≡ m → ◌≡◌ {A = Result ℕ ℕ} (Ok n) (Ok 3) → m ≡ 3
-three_from n m e well = cc
 
 -- what a whole proof has shown, by the status of the piece that it is taken for
 pub whole_zero : {E : Type 0} (q : Result Verdict RunFault) (r : Result PieceVerdict E) → status_of shows_wanted r ≡ 0
@@ -58,6 +48,22 @@ whole_three (Err fault) (Ok NotCarried) three is = absurd (cc)
 whole_three q (Ok Refuted) three is = absurd (cc)
 whole_three q (Ok Carried) three is = absurd (cc)
 whole_three q (Err fault) three is = absurd (cc)
+
+pub whole_refuted : (q : Result Verdict RunFault) → piece_of q ≡ Ok Refuted → q ≡ Ok Verified
+whole_refuted (Ok Verified) is = refl
+whole_refuted (Ok NotVerified) is = absurd (cc)
+whole_refuted (Err fault) is = absurd (cc)
+
+pub never_carried : (q : Result Verdict RunFault) → piece_of q ≡ Ok Carried → ⊥
+never_carried (Ok Verified) is = cc
+never_carried (Ok NotVerified) is = cc
+never_carried (Err fault) is = cc
+
+pub status_open : {E : Type 0} (r : Result PieceVerdict E) → r ≡ Ok NotCarried → status_of shows_wanted r ≢ 0
+status_open (Ok NotCarried) is zero = cc
+status_open (Ok Refuted) is zero = cc
+status_open (Ok Carried) is zero = cc
+status_open (Err fault) is zero = cc
 
 -- a piece's run has no trimmed steps, if its options exclude them
 value_is_given : (choice : Option Choice) (value : List ℕ) → option_and_then (λ (c : Choice). c.value) choice ≡ Some value → is_some choice ≡ true
@@ -86,11 +92,19 @@ module _ (place : List ℕ → Option (List ℕ)) (options : List Choice) (lrat 
       → Gives mid next (place_of place (trim_name options)) trim → new ≡ next → GivesTwo place options lrat trim old new
   two_given first second same = record { with_lrat = mid; first = first; second = rw same second }
 
-  -- the receipt alone has no name
-  pub left_whole : (core : Option (List ℕ)) (line : List ℕ) (text text' : Option (List ℕ)) → Appends text text' line
-      → GivesAll place options lrat trim core old mid → new ≡ mid
-      → LeavesUnshown place options line text text' lrat trim core old new
-  left_whole core line text text' whole gives same = inr (begins_whole text text' line whole, rw same gives)
+module _ (place : List ℕ → Option (List ℕ)) (options : List Choice) (lrat trim core : Option (List ℕ)) (line : List ℕ) (text text' : Option (List ℕ))
+    (Named : Given → Given → Type 0) (old mid new : Given) where
+  -- not all outputs have their names, and nothing was written
+  pub left_first : text' ≡ text → GivesFirst place options lrat trim old new
+      → LeavesUnshown place options line text text' lrat trim core Named old new
+  left_first same first = inl (same, inl first)
+
+  -- all have, and then the receipt has none, or the line was begun
+  pub left_some : GivesAll place options lrat trim core old mid
+      → ((text' ≡ text) × (new ≡ mid)) ⊎ (AppendsBeginning text text' line × Named mid new)
+      → LeavesUnshown place options line text text' lrat trim core Named old new
+  left_some all (inl left) = inl (left.0, inr (rw (← left.1) at all))
+  left_some all (inr left) = inr (left.0, record { outputs = mid; named = all; receipt_named = left.1 })
 
 -- ---- a verdict that shows nothing, or was not shown
 
@@ -164,18 +178,57 @@ module _ (place : List ℕ → Option (List ℕ)) (options : List Choice) (old n
       pub is : checked ≡ Ok verdict
       pub some : GivesSome place options lrat trim core old new
 
-    pub unkept : (checked r : Result PieceVerdict PieceFault) (text text' : Option (List ℕ)) → status_of shows_wanted r ≢ 0
-        → IfOk r (λ verdict. checked ≡ Ok verdict) → (IsErr checked → new ≡ old)
-        → IfOk checked (λ verdict. OnErr r (LeavesUnshown place options (piece_line verdict) text text' lrat trim core old new))
-        → (r ≡ Ok NotCarried → GivesAll place options lrat trim core old new)
-        → (new ≡ old) ⊎ IsUnkept checked
-    unkept (Err fault) r text text' nonzero is unnamed left all = inl (unnamed (search rules))
-    unkept (Ok verdict) (Err fault) text text' nonzero is unnamed (inl left) all = inr (record { verdict = verdict; is = refl; some = inl left.1 })
-    unkept (Ok verdict) (Err fault) text text' nonzero is unnamed (inr left) all = inr (record { verdict = verdict; is = refl; some = inr left.1 })
-    unkept (Ok verdict) (Ok Refuted) text text' nonzero is unnamed left all = absurd (nonzero refl)
-    unkept (Ok verdict) (Ok Carried) text text' nonzero is unnamed left all = absurd (nonzero refl)
-    unkept (Ok verdict) (Ok NotCarried) text text' nonzero is unnamed left all =
-        inr (record { verdict = verdict; is = refl; some = inr (all refl) })
+    pub named_all : {F : Type 0} (contents : F → Option (List ℕ)) (file : Option F) → file ≡ None
+        → ThenNames place options (NamesReceipt place options contents file) (GivesAll place options lrat trim core old) new
+        → GivesAll place options lrat trim core old new
+    named_all contents (Some f) none left = absurd (cc)
+    named_all contents None none left = rw (← left.receipt_named) at left.named
+
+    -- a verdict that shows nothing has no receipt
+    pub unkept : {F : Type 0} (contents : F → Option (List ℕ)) (file : Option F) (checked r : Result PieceVerdict PieceFault)
+        → status_of shows_wanted r ≢ 1 → IfOk r (λ verdict. checked ≡ Ok verdict) → file ≡ None
+        → (IsOk r → ThenNames place options (NamesReceipt place options contents file) (GivesAll place options lrat trim core old) new)
+        → IsUnkept checked
+    unkept contents file checked (Ok verdict) one is none named = let left = named refl in
+        record { verdict = verdict; is = is; some = inr (named_all contents file none left) }
+    unkept contents file checked (Err fault) one is none named = absurd (one refl)
+
+module _ {F : Type 0} (contents : F → Option (List ℕ)) (file : Option F) (place : List ℕ → Option (List ℕ)) (options : List Choice) (old new : Given)
+    (lrat trim core : Option (List ℕ)) (text text' : Option (List ℕ)) where
+  -- what is left of a verdict that was not shown, by what holds where it has a receipt
+  pub leaves : (C R : Type 0) (checked r : Result PieceVerdict PieceFault) → IsErr r
+      → (IsErr checked → text' ≡ text) → (IsErr checked → new ≡ old)
+      → IfOk checked (λ verdict. OnErr r (LeavesUnshown place options (piece_line verdict) text text' lrat trim core (NamesReceipt place options contents file) old new))
+      → ((named : Given) → IsUnkept place options old named lrat trim core checked → NamesSome place options old named)
+      → (status_of shows_wanted checked ≢ 0 → file ≡ None)
+      → (checked ≡ Ok Carried → (named : Given) → NamesSome place options old named → NamesReceipt place options contents file named new → C)
+      → (checked ≡ Ok Refuted → (named : Given) → NamesSome place options old named → NamesReceipt place options contents file named new → R)
+      → Leaves place options (NamesSome place options old new) (piece_line NotCarried) text text' old new
+      ⊎ Leaves place options C (piece_line Carried) text text' old new
+      ⊎ Leaves place options R (piece_line Refuted) text text' old new
+  leaves C R (Err fault) r failed silent unnamed left some none carried refuted = inl (inl (silent refl, names_none place options old new (unnamed refl)))
+  leaves C R checked (Ok shown) failed silent unnamed left some none carried refuted = absurd (cc)
+  leaves C R (Ok verdict) (Err fault) failed silent unnamed (inl left) some none carried refuted =
+      inl (inl (left.0, some new (record { verdict = verdict; is = refl; some = left.1 })))
+  leaves C R (Ok NotCarried) (Err fault) failed silent unnamed (inr left) some none carried refuted =
+      let all = named_all place options old new lrat trim core contents file (none (λ e. cc)) left.1 in
+      inl (inr (left.0, some new (record { verdict = NotCarried; is = refl; some = inr all })))
+  leaves C R (Ok Carried) (Err fault) failed silent unnamed (inr left) some none carried refuted =
+      let named = left.1 in
+      inr (inl (inr (left.0, carried refl named.outputs (some named.outputs (record { verdict = Carried; is = refl; some = inr named.named })) named.receipt_named)))
+  leaves C R (Ok Refuted) (Err fault) failed silent unnamed (inr left) some none carried refuted =
+      let named = left.1 in
+      inr (inr (inr (left.0, refuted refl named.outputs (some named.outputs (record { verdict = Refuted; is = refl; some = inr named.named })) named.receipt_named)))
+
+-- a whole proof carries to nothing
+pub whole_leaves : {A R : Type 0} {place : List ℕ → Option (List ℕ)} {options : List Choice} {line : List ℕ} {text text' : Option (List ℕ)} {old new : Given}
+    → (((text' ≡ text) × NamesSome place options old new) ⊎ A)
+    ⊎ Leaves place options ⊥ line text text' old new ⊎ R
+    → (((text' ≡ text) × NamesSome place options old new) ⊎ A) ⊎ R
+whole_leaves (inl left) = inl left
+whole_leaves (inr (inl (inl left))) = inl (inl left)
+whole_leaves (inr (inl (inr left))) = absurd left.1
+whole_leaves (inr (inr left)) = inr left
 
 -- ---- a whole proof
 
@@ -234,11 +287,10 @@ module _ {L C : Type 0} (lrat : L → Option (List ℕ)) (core : C → Option (L
   pub whole_some : (cnf : Option (List ℕ)) (q : Result Verdict RunFault) → bytes_in lrat s.lrat ≡ begun (lrat_name options)
       → bytes_in lrat s.trim ≡ begun (trim_name options) → bytes_in core s.core ≡ begun (core_name options)
       → ((verdict : Verdict) → q ≡ Ok verdict → OfFormula cnf (λ formula. WritesFor formula lrat core s s' verdict) ⊎ ⊥)
-      → (new ≡ old) ⊎ IsUnkept place options old new (bytes_in lrat s'.lrat) (bytes_in lrat s'.trim) (bytes_in core s'.core) (piece_of q)
+      → IsUnkept place options old new (bytes_in lrat s'.lrat) (bytes_in lrat s'.trim) (bytes_in core s'.core) (piece_of q)
       → NamesSome place options old new
-  whole_some cnf q lines steps clauses run (inl same) = names_none place options old new same
-  whole_some cnf (Ok verdict) lines steps clauses run (inr left) = verdict_some cnf verdict lines steps clauses (run verdict refl) left.some
-  whole_some cnf (Err fault) lines steps clauses run (inr left) = absurd (cc)
+  whole_some cnf (Ok verdict) lines steps clauses run left = verdict_some cnf verdict lines steps clauses (run verdict refl) left.some
+  whole_some cnf (Err fault) lines steps clauses run left = absurd (cc)
 
 -- ---- a piece
 
@@ -314,15 +366,14 @@ module _ {C : Type 0} (core : Option C) (place : List ℕ → Option (List ℕ))
       → (IsSome core → lrat' ≡ lrat)
       → (IsNone core → WritesPiece form cnf holds lrat lrat' line line' r)
       → WritesPieceCore cnf holds clauses clauses' line line' r
-      → (new ≡ old) ⊎ IsUnkept place options old new lrat' None clauses' r
+      → IsUnkept place options old new lrat' None clauses' r
       → NamesSome place options old new
-  piece_some line line' r none lines used apart run of (inl same) = names_none place options old new same
-  piece_some line line' (Ok verdict) none lines used apart run (inl of) (inr left) = names_some place options old new _ _ _
+  piece_some line line' (Ok verdict) none lines used apart run (inl of) left = names_some place options old new _ _ _
       (lines_known form (lrat_name options) lrat lrat' cnf holds line line' core verdict lines apart run)
       (subst (λ name. IsKnown name None) (sym none) tt)
       (core_known of.formula of.holds.formula (core_name options) clauses clauses' verdict used of.holds.holds) left.some
-  piece_some line line' (Ok verdict) none lines used apart run (inr unread) (inr left) = absurd unread.0
-  piece_some line line' (Err fault) none lines used apart run of (inr left) = absurd (cc)
+  piece_some line line' (Ok verdict) none lines used apart run (inr unread) left = absurd unread.0
+  piece_some line line' (Err fault) none lines used apart run of left = absurd (cc)
 
 -- ---- a receipt
 

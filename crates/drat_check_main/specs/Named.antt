@@ -3,24 +3,27 @@
 --     form_asked options      how the lines of a proof are written
 --     GivesFirst, GivesAll      the first of three outputs got their names, or none did;  all got them
 --     GivesSome      one of these two
+--     ThenNames, ThenReceipt      and then a receipt has its name
 --     LeavesUnshown      what showing a verdict leaves that fails on its way
 --     NamesSome      a run gave no name but to outputs, to the first of them first
 --     NamesProof      the outputs of a run that refutes a formula have their names
 --     NamesPiece      those of a run over a piece that derives its target clauses
---     ThenReceipt      and then a receipt has its name
+--     Leaves, LeavesProof, LeavesPiece      what a run leaves whose verdict could not be shown
 use Rattle.std.specs.Prelude.{◌≡◌, ◌⊎◌, ℕ, if◌then◌else◌, List, Option, None, Some, codes, true}
 use Rattle.command.specs.Calls.{Choice, is_given, value_given}
 use Rattle.command.specs.Outputs.{begun, place_of, Gives}
 use Rattle.drat_check.specs.Outputs.{WroteCore, WroteProof}
 use Rattle.drat_check.specs.PieceCores.{CoreShown}
 use Rattle.drat_check.specs.Pieces.{WritesShown}
-use Rattle.verdicts.specs.Texts.{OfFormulas}
-use Rattle.receipt_files.specs.Named.{GivesReceipt}
+use Rattle.verdicts.specs.Texts.{CarriesText, OfFormulas}
+use Rattle.receipt_files.specs.Named.{GivesReceipt, carries_of, refuted_of}
 use Rattle.receipts.specs.declared.receipt.Receipt.{Receipt}
 use Rattle.sat_output.specs.declared.form.LineForm.{LineForm}
 use Rattle.sat_output.specs.declared.form.LineForm.TheVariants.{Binary, Text}
-use Rattle.verdicts.specs.Pieces.{shows_wanted}
+use Rattle.sat_formula.specs.Refuted.{IsRefuted}
+use Rattle.verdicts.specs.Pieces.{piece_line, shows_wanted}
 use Rattle.verdicts.specs.declared.piece.PieceVerdict.{PieceVerdict}
+use Rattle.verdicts.specs.declared.piece.PieceVerdict.TheVariants.{Carried, NotCarried, Refuted}
 use Rattle.whole_writes.specs.Beginnings.{AppendsBeginning}
 
 abbrev pub lrat_name : List Choice → Option (List ℕ)
@@ -64,12 +67,23 @@ module _ (place : List ℕ → Option (List ℕ)) (options : List Choice) where
       → Option (List (List ℕ × List ℕ)) → Option (List (List ℕ × List ℕ)) → Type 0
   GivesSome lrat trim core old new = GivesFirst lrat trim old new ⊎ GivesAll lrat trim core old new
 
-  -- the line was begun only once all three had their names, and no other file got one
+  -- of the files that were named before the receipt this holds
+  pub record ThenNames (Named : Option (List (List ℕ × List ℕ)) → Option (List (List ℕ × List ℕ)) → Type 0)
+      (P : Option (List (List ℕ × List ℕ)) → Type 0) (new : Option (List (List ℕ × List ℕ))) : Type 0 where
+    pub outputs : Option (List (List ℕ × List ℕ))
+    pub named : P outputs
+    pub receipt_named : Named outputs new
+
+  abbrev pub ThenReceipt : Receipt → (Option (List (List ℕ × List ℕ)) → Type 0) → Option (List (List ℕ × List ℕ)) → Type 0
+  ThenReceipt receipt = ThenNames (GivesReceipt place options receipt)
+
+  -- the line was begun only once all had their names, the receipt too, and no other file got one
   abbrev pub LeavesUnshown : List ℕ → Option (List ℕ) → Option (List ℕ) → Option (List ℕ) → Option (List ℕ) → Option (List ℕ)
+      → (Option (List (List ℕ × List ℕ)) → Option (List (List ℕ × List ℕ)) → Type 0)
       → Option (List (List ℕ × List ℕ)) → Option (List (List ℕ × List ℕ)) → Type 0
-  LeavesUnshown line text text' lrat trim core old new =
-      ((text' ≡ text) × GivesFirst lrat trim old new)
-      ⊎ (AppendsBeginning text text' line × GivesAll lrat trim core old new)
+  LeavesUnshown line text text' lrat trim core Named old new =
+      ((text' ≡ text) × GivesSome lrat trim core old new)
+      ⊎ (AppendsBeginning text text' line × ThenNames Named (GivesAll lrat trim core old) new)
 
   -- files of some bytes, whose names are those of the first outputs
   pub record NamesSome (old new : Option (List (List ℕ × List ℕ))) : Type 0 where
@@ -100,9 +114,23 @@ module _ (place : List ℕ → Option (List ℕ)) (options : List Choice) where
         CoreShown formula wanted (begun (core_name options)) core verdict)
     pub named : GivesAll lrat None core old new
 
-  -- of the files that were named before the receipt this holds
-  pub record ThenReceipt (receipt : Receipt) (P : Option (List (List ℕ × List ℕ)) → Type 0)
-      (new : Option (List (List ℕ × List ℕ))) : Type 0 where
-    pub outputs : Option (List (List ℕ × List ℕ))
-    pub named : P outputs
-    pub receipt_named : GivesReceipt place options receipt outputs new
+  -- no line was begun, and no receipt has its name; or the line was, once this held
+  abbrev pub Leaves : Type 0 → List ℕ → Option (List ℕ) → Option (List ℕ)
+      → Option (List (List ℕ × List ℕ)) → Option (List (List ℕ × List ℕ)) → Type 0
+  Leaves Named line text text' old new =
+      ((text' ≡ text) × NamesSome old new) ⊎ (AppendsBeginning text text' line × Named)
+
+  -- of a whole proof, by the line
+  abbrev pub LeavesProof : List ℕ → Option (List ℕ) → Option (List ℕ)
+      → Option (List (List ℕ × List ℕ)) → Option (List (List ℕ × List ℕ)) → Type 0
+  LeavesProof cnf text text' old new =
+      Leaves (NamesSome old new) (piece_line NotCarried) text text' old new
+      ⊎ Leaves (IsRefuted cnf × ThenReceipt (refuted_of cnf) (NamesSome old) new) (piece_line Refuted) text text' old new
+
+  -- of a piece
+  abbrev pub LeavesPiece : List ℕ → List ℕ → Option (List ℕ) → Option (List ℕ)
+      → Option (List (List ℕ × List ℕ)) → Option (List (List ℕ × List ℕ)) → Type 0
+  LeavesPiece cnf wanted text text' old new =
+      Leaves (NamesSome old new) (piece_line NotCarried) text text' old new
+      ⊎ Leaves (CarriesText cnf wanted × ThenReceipt (carries_of cnf wanted) (NamesSome old) new) (piece_line Carried) text text' old new
+      ⊎ Leaves (IsRefuted cnf × ThenReceipt (refuted_of cnf) (NamesSome old) new) (piece_line Refuted) text text' old new

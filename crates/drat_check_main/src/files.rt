@@ -4,7 +4,7 @@ ghost use Rattle.std.specs.Io.KnownBytes.{Appends};
 ghost use Rattle.command.specs.Calls.{choices_of};
 ghost use Rattle.command.specs.Inputs.{bytes_named};
 ghost use Rattle.command.specs.Outputs.{begun};
-ghost use Rattle.drat_check_main.specs.Named.{GivesAll, NamesProof, NamesSome, ThenReceipt, core_name, lrat_name, trim_name};
+ghost use Rattle.drat_check_main.specs.Named.{GivesAll, LeavesProof, NamesProof, NamesSome, ThenReceipt, core_name, lrat_name, trim_name};
 ghost use Rattle.verdicts.specs.Texts.{OfFormula};
 ghost use Rattle.receipt_files.specs.Named.{refuted_of};
 ghost use Rattle.sat_formula.specs.Refuted.{IsRefuted};
@@ -20,13 +20,13 @@ use command::{
     progress_of, warn_of_header,
 };
 use drat_check::{ProofFormat, exit_status, run_check};
-use receipt_files::hold_digested;
+use receipt_files::{hold_digested, piece_receipt, whole_receipt};
 use std::io;
 use std::io::Write;
 
 /// Checks a proof. The files that are written are made once both others are open, and before
-/// anything is read. They have their names before the verdict's line is written, and a receipt
-/// after it. The formula is read whole, and let go once its clauses are taken.
+/// anything is read. They are whole before one of them gets its name, and have their names before
+/// the verdict's line is written. The formula is read whole, and let go once its clauses are taken.
 #[tactic(auto, using(crate::proofs::Naming::names_none))]
 pub(crate) fn check_files<'a, S: OutputSystem, W: Write>(
     system: &'a S,
@@ -52,7 +52,13 @@ pub(crate) fn check_files<'a, S: OutputSystem, W: Write>(
         (begun (lrat_name (choices_of call.now))) (begun (trim_name (choices_of call.now)))
         (begun (core_name (choices_of call.now))) (S.renamed given.old) (S.renamed given.new) }
     ensures unnamed { IfErr result (λ status. S.renamed given.new ≡ S.renamed given.old) }
-    ensures unkept { S.unwritten system.now ≡ Some [] → result ≢ Ok 0
+    ensures silent { IfErr result (λ status. out.new ≡ out.old) }
+    ensures unshown { (text : List ℕ)
+        → bytes_named (S.file_bytes system.now) (S.input_bytes system.now) names.entry.cnf.now ≡ Some text
+        → S.unwritten system.now ≡ Some [] → result ≡ Ok 1
+        → LeavesProof (S.place system.now) (choices_of call.now) text
+        (W.contents out.old) (W.contents out.new) (S.renamed given.old) (S.renamed given.new) }
+    ensures unkept { S.unwritten system.now ≡ Some [] → result ≢ Ok 0 → result ≢ Ok 1
         → NamesSome (S.place system.now) (choices_of call.now) (S.renamed given.old) (S.renamed given.new) }
 {
     let cost = Cost::from_now(system);
@@ -83,6 +89,9 @@ pub(crate) fn check_files<'a, S: OutputSystem, W: Write>(
         &mut io::sink(),
         &mut lie,
     );
+    let checked = as_piece(checked);
+    let said = piece_receipt((cnf.digest, None), &checked);
+    let receipt = whole_receipt(system, call, receipt, said, &checked)?;
     let counts = outputs.counts.get();
     let finished = Finished {
         lrat: outputs.lrat,
@@ -90,9 +99,7 @@ pub(crate) fn check_files<'a, S: OutputSystem, W: Write>(
         core: outputs.core,
         receipt,
     };
-    let digests = (cnf.digest, None);
-    let checked = as_piece(checked);
-    let outcome = show(system, &files, call, finished, digests, checked, given, out);
+    let outcome = show(&files, call, finished, checked, given, out);
     say_outcome(system, names, format, call, &outcome);
     warn_of_header(system, names.cnf, &lie);
     say_wanted_stats(system, call, &outcome, counts, cost);

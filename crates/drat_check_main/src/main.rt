@@ -18,7 +18,7 @@ ghost use Rattle.std.specs.Io.KnownBytes.{Appends};
 ghost use Rattle.command.specs.Calls.{choices_of, is_given, operands_of, value_given};
 ghost use Rattle.command.specs.Inputs.{bytes_named};
 ghost use Rattle.command.specs.Outputs.{begun};
-ghost use Rattle.drat_check_main.specs.Named.{GivesAll, NamesPiece, NamesProof, NamesSome, ThenReceipt, core_name, lrat_name, trim_name};
+ghost use Rattle.drat_check_main.specs.Named.{GivesAll, LeavesPiece, LeavesProof, NamesPiece, NamesProof, NamesSome, ThenReceipt, core_name, lrat_name, trim_name};
 ghost use Rattle.drat_check_main.specs.Pieces.{KeepsPiece, ShowsLine, ShowsPiece};
 ghost use Rattle.verdicts.specs.Texts.{OfFormula};
 ghost use Rattle.receipt_files.specs.Named.{refuted_of};
@@ -102,7 +102,25 @@ fn run<S: OutputSystem, W: Write>(
         (Some text) (Some wanted) (S.renamed given.old)) (S.renamed given.new) }
     ensures shown { result ≡ Ok 0 → ShowsLine (W.contents out.old) (W.contents out.new) }
     ensures unnamed { IfErr result (λ status. S.renamed given.new ≡ S.renamed given.old) }
-    ensures unkept { S.unwritten system.now ≡ Some [] → result ≢ Ok 0
+    ensures silent { IfErr result (λ status. out.new ≡ out.old) }
+    ensures unshown { (cnf proof text : List ℕ)
+        → operands_of call.now ≡ cnf ∷ proof ∷ []
+        → is_given (choices_of call.now) (codes "--example") ≡ false
+        → value_given (choices_of call.now) (codes "--holds") ≡ None
+        → bytes_named (S.file_bytes system.now) (S.input_bytes system.now) cnf ≡ Some text
+        → S.unwritten system.now ≡ Some [] → result ≡ Ok 1
+        → LeavesProof (S.place system.now) (choices_of call.now) text
+        (W.contents out.old) (W.contents out.new) (S.renamed given.old) (S.renamed given.new) }
+    ensures piece_unshown { (cnf proof holds text wanted : List ℕ)
+        → operands_of call.now ≡ cnf ∷ proof ∷ []
+        → is_given (choices_of call.now) (codes "--example") ≡ false
+        → value_given (choices_of call.now) (codes "--holds") ≡ Some holds
+        → bytes_named (S.file_bytes system.now) (S.input_bytes system.now) cnf ≡ Some text
+        → S.file_bytes system.now holds ≡ Some wanted
+        → S.unwritten system.now ≡ Some [] → result ≡ Ok 1
+        → LeavesPiece (S.place system.now) (choices_of call.now) text wanted
+        (W.contents out.old) (W.contents out.new) (S.renamed given.old) (S.renamed given.new) }
+    ensures unkept { S.unwritten system.now ≡ Some [] → result ≢ Ok 0 → result ≢ Ok 1
         → NamesSome (S.place system.now) (choices_of call.now) (S.renamed given.old) (S.renamed given.new) }
 {
     if call.has("--example") {

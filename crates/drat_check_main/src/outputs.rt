@@ -58,18 +58,17 @@ fn form_of(call: &Call<'_>) -> LineForm
     }
 }
 
-/// The writers of a run's outputs, which are whole, except the receipt.
+/// The files that a run with a verdict has written, which are whole.
 #[derive(Drop)]
 pub(crate) struct Finished<F: io::Write + Drop> {
     pub(crate) lrat: Option<BufWriter<F>>,
     pub(crate) trim: Option<BufWriter<F>>,
     pub(crate) core: Option<BufWriter<F>>,
-    /// The file of the receipt, which is still empty.
-    pub(crate) receipt: Option<BufWriter<F>>,
+    pub(crate) receipt: Option<F>,
 }
 
-/// Gives the outputs of a run their names. All are whole. Returns the file of the receipt, which is
-/// not.
+/// Gives the outputs of a run their names. Returns the file of the receipt, which gets its name
+/// last.
 ///
 /// # Errors
 ///
@@ -81,7 +80,7 @@ pub(crate) fn name_outputs<S: OutputSystem>(
     call: &Call<'_>,
     outputs: Finished<S::Output>,
     given: &mut S::Names,
-) -> io::Result<Option<BufWriter<S::Output>>>
+) -> io::Result<Option<S::Output>>
     ensures receipt { IfOk result (λ receipt. receipt ≡ outputs.receipt) }
     ensures named { OnOk result (GivesAll
         (S.place files.now.system.now) (choices_of call.now)

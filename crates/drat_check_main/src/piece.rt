@@ -2,7 +2,7 @@
 ghost use Rattle.std.specs.Prelude.{◌≡◌, ◌≢◌, ℕ, List, [], None, Ok, Some, IfErr};
 ghost use Rattle.command.specs.Calls.{choices_of};
 ghost use Rattle.command.specs.Inputs.{bytes_named};
-ghost use Rattle.drat_check_main.specs.Named.{NamesPiece, NamesSome, trim_name};
+ghost use Rattle.drat_check_main.specs.Named.{LeavesPiece, NamesPiece, NamesSome, trim_name};
 ghost use Rattle.drat_check_main.specs.Pieces.{KeepsPiece, ShowsLine, ShowsPiece};
 
 use crate::about::ABOUT;
@@ -14,7 +14,7 @@ use command::{
     open_inputs, progress_of, say_missing, warn_of_header,
 };
 use drat_check::{PieceOutputs, ProofFormat, exit_status, run_piece};
-use receipt_files::hold_digested;
+use receipt_files::{hold_digested, piece_receipt, whole_receipt};
 use std::io;
 use std::io::Write;
 
@@ -43,8 +43,16 @@ pub(crate) fn check_piece<'a, S: OutputSystem, W: Write>(
         (Some text) (Some wanted) (S.renamed given.old)) (S.renamed given.new) }
     ensures line { result ≡ Ok 0 → ShowsLine (W.contents out.old) (W.contents out.new) }
     ensures unnamed { IfErr result (λ status. S.renamed given.new ≡ S.renamed given.old) }
+    ensures silent { IfErr result (λ status. out.new ≡ out.old) }
+    ensures unshown { (text wanted : List ℕ)
+        → bytes_named (S.file_bytes system.now) (S.input_bytes system.now) names.entry.cnf.now ≡ Some text
+        → S.file_bytes system.now holds_name.now ≡ Some wanted
+        → S.unwritten system.now ≡ Some [] → trim_name (choices_of call.now) ≡ None
+        → result ≡ Ok 1
+        → LeavesPiece (S.place system.now) (choices_of call.now) text wanted
+        (W.contents out.old) (W.contents out.new) (S.renamed given.old) (S.renamed given.new) }
     ensures unkept { S.unwritten system.now ≡ Some [] → trim_name (choices_of call.now) ≡ None
-        → result ≢ Ok 0
+        → result ≢ Ok 0 → result ≢ Ok 1
         → NamesSome (S.place system.now) (choices_of call.now) (S.renamed given.old) (S.renamed given.new) }
 {
     let cost = Cost::from_now(system);
@@ -87,6 +95,8 @@ pub(crate) fn check_piece<'a, S: OutputSystem, W: Write>(
         &mut outputs,
         &mut io::sink(),
     );
+    let said = piece_receipt(digests, &checked);
+    let receipt = whole_receipt(system, call, receipt, said, &checked)?;
     let counts = outputs.counts.get();
     let finished = Finished {
         lrat: outputs.lrat,
@@ -94,7 +104,7 @@ pub(crate) fn check_piece<'a, S: OutputSystem, W: Write>(
         core: outputs.core,
         receipt,
     };
-    let outcome = show(system, &files, call, finished, digests, checked, given, out);
+    let outcome = show(&files, call, finished, checked, given, out);
     say_outcome(system, names, format, call, &outcome);
     say_missing(system, holds_name, &outputs.missing);
     warn_of_header(system, names.cnf, &outputs.lie);

@@ -1,24 +1,20 @@
-//! Verdicts that are shown: the outputs get their names, then the line is written, and then the
-//! receipt gets its name.
-ghost use Rattle.std.specs.Prelude.{◌≡◌, ℕ, List, Ok, IfOk, IsErr, OnErr};
+//! Verdicts that are shown: the outputs get their names, and then the line is written.
+ghost use Rattle.std.specs.Prelude.{◌≡◌, Ok, IfOk, IsErr, IsOk, OnErr};
 ghost use Rattle.std.specs.Io.KnownBytes.{Appends};
 ghost use Rattle.std.specs.Io.Buffered.{writer_contents};
 ghost use Rattle.command.specs.Calls.{choices_of};
-ghost use Rattle.command.specs.Outputs.{begun, written_in};
 ghost use Rattle.drat_check.specs.Outputs.{bytes_in};
-ghost use Rattle.drat_check_main.specs.Named.{GivesAll, LeavesUnshown, ThenReceipt};
+ghost use Rattle.drat_check_main.specs.Named.{GivesAll, LeavesUnshown, ThenNames};
 ghost use Rattle.drat_check_main.specs.Pieces.{piece_of};
-ghost use Rattle.receipt_files.specs.Named.{IsDigestOf, carries_of, receipt_name, refuted_of};
+ghost use Rattle.receipt_files.specs.Named.{NamesReceipt};
 ghost use Rattle.verdicts.specs.Pieces.{piece_line};
-ghost use Rattle.verdicts.specs.declared.piece.PieceVerdict.TheVariants.{Carried, NotCarried, Refuted};
 
 use crate::outputs::{Finished, name_outputs};
 use command::{Call, OutputSystem, WrittenFiles};
 use drat_check::{PieceFault, RunFault};
-use receipt_files::keep_piece;
 use std::io;
 use std::io::Write;
-use verdicts::{PieceVerdict, Verdict, write_piece_line};
+use verdicts::{PieceVerdict, Verdict};
 
 /// Returns the result of a run over a whole proof as that over a piece whose only target clause is
 /// the empty one.
@@ -32,21 +28,19 @@ pub(crate) fn as_piece(checked: Result<Verdict, RunFault>) -> Result<PieceVerdic
     }
 }
 
-/// Gives the outputs of a run that has a verdict their names, then writes the verdict's line, and
-/// then keeps the receipt, of formulas of these digests.
+/// Gives the outputs of a run that has a verdict their names, and the receipt its own, and then
+/// writes the verdict's line.
 ///
 /// # Errors
 ///
 /// That of the run, after which nothing has its name and nothing is written; or `Write` with the
-/// rename or the write that failed. The receipt has no name then, and nothing of the line is
-/// written unless all outputs have theirs.
-#[tactic(auto, using(crate::proofs::Naming::left_whole))]
+/// rename or the write that failed. Nothing of the line is written then unless all have their
+/// names.
+#[tactic(auto, using(crate::proofs::Naming::left_some, crate::proofs::Naming::left_first))]
 pub(crate) fn show<S: OutputSystem, W: Write>(
-    system: &S,
     files: &WrittenFiles<'_, S>,
     call: &Call<'_>,
     outputs: Finished<S::Output>,
-    digests: (Option<[u8; 32]>, Option<[u8; 32]>),
     checked: Result<PieceVerdict, PieceFault>,
     given: &mut S::Names,
     out: &mut W,
@@ -54,29 +48,13 @@ pub(crate) fn show<S: OutputSystem, W: Write>(
     ensures verdict { IfOk result (λ verdict. checked ≡ Ok verdict) }
     ensures line { IfOk result (λ verdict.
         Appends (W.contents out.old) (W.contents out.new) (piece_line verdict)) }
-    ensures carried { (text next : List ℕ) → IsDigestOf digests.0 text → IsDigestOf digests.1 next
-        → written_in S.Output.contents outputs.receipt ≡ begun (receipt_name (choices_of call.now))
-        → result ≡ Ok Carried
-        → ThenReceipt (S.place files.now.system.now) (choices_of call.now) (carries_of text next)
+    ensures named { IsOk result → ThenNames (S.place files.now.system.now) (choices_of call.now)
+        (NamesReceipt (S.place files.now.system.now) (choices_of call.now) S.Output.contents outputs.receipt)
         (GivesAll (S.place files.now.system.now) (choices_of call.now)
         (bytes_in (writer_contents S.Output.contents) outputs.lrat)
         (bytes_in (writer_contents S.Output.contents) outputs.trim)
         (bytes_in (writer_contents S.Output.contents) outputs.core) (S.renamed given.old))
         (S.renamed given.new) }
-    ensures refuted { (text : List ℕ) → IsDigestOf digests.0 text
-        → written_in S.Output.contents outputs.receipt ≡ begun (receipt_name (choices_of call.now))
-        → result ≡ Ok Refuted
-        → ThenReceipt (S.place files.now.system.now) (choices_of call.now) (refuted_of text)
-        (GivesAll (S.place files.now.system.now) (choices_of call.now)
-        (bytes_in (writer_contents S.Output.contents) outputs.lrat)
-        (bytes_in (writer_contents S.Output.contents) outputs.trim)
-        (bytes_in (writer_contents S.Output.contents) outputs.core) (S.renamed given.old))
-        (S.renamed given.new) }
-    ensures unshown { result ≡ Ok NotCarried → GivesAll
-        (S.place files.now.system.now) (choices_of call.now)
-        (bytes_in (writer_contents S.Output.contents) outputs.lrat)
-        (bytes_in (writer_contents S.Output.contents) outputs.trim)
-        (bytes_in (writer_contents S.Output.contents) outputs.core) (S.renamed given.old) (S.renamed given.new) }
     ensures unnamed { IsErr checked → S.renamed given.new ≡ S.renamed given.old }
     ensures silent { IsErr checked → out.new ≡ out.old }
     ensures unkept { IfOk checked (λ verdict. OnErr result (LeavesUnshown
@@ -84,25 +62,29 @@ pub(crate) fn show<S: OutputSystem, W: Write>(
         (W.contents out.old) (W.contents out.new)
         (bytes_in (writer_contents S.Output.contents) outputs.lrat)
         (bytes_in (writer_contents S.Output.contents) outputs.trim)
-        (bytes_in (writer_contents S.Output.contents) outputs.core) (S.renamed given.old) (S.renamed given.new))) }
+        (bytes_in (writer_contents S.Output.contents) outputs.core)
+        (NamesReceipt (S.place files.now.system.now) (choices_of call.now) S.Output.contents outputs.receipt)
+        (S.renamed given.old) (S.renamed given.new))) }
 {
     let verdict = match checked {
         Ok(verdict) => verdict,
         Err(fault) => return Err(fault),
     };
-    let alloc = system.alloc();
     let receipt = match name_outputs(files, call, outputs, given) {
         Ok(receipt) => receipt,
         Err(fault) => return Err(unwritten(fault)),
     };
-    match write_piece_line(out, verdict) {
-        Ok(()) => {}
-        Err(fault) => return Err(unwritten(fault)),
-    }
-    match keep_piece(alloc, files, call, receipt, digests, verdict, given) {
-        Ok(()) => Ok(verdict),
-        Err(fault) => Err(unwritten(fault)),
-    }
+    let line = verdict.line();
+    receipt_files::show(
+        files,
+        call,
+        receipt,
+        Ok(verdict),
+        line,
+        unwritten,
+        given,
+        out,
+    )
 }
 
 /// Returns the fault of a verdict that was reached and not shown.

@@ -1,13 +1,12 @@
 //! A whole proof, in a file.
-ghost use Rattle.std.specs.Prelude.{◌≡◌, ◌≢◌, ℕ, List, [], IfOk, Ok, Some};
+ghost use Rattle.std.specs.Prelude.{◌≡◌, ◌≢◌, ℕ, List, [], IfErr, IfOk, Ok, Some};
 ghost use Rattle.std.specs.Io.KnownBytes.{Appends};
 ghost use Rattle.command.specs.Calls.{choices_of};
 ghost use Rattle.command.specs.Inputs.{bytes_named};
-ghost use Rattle.command.specs.Outputs.{begun, written_in};
-ghost use Rattle.receipt_files.specs.Named.{GivesReceipt, IsDigestOf, receipt_name, refuted_of};
+ghost use Rattle.receipt_files.specs.Named.{GivesReceipt, LeavesReceipt, refuted_of};
 ghost use Rattle.sat_formula.specs.Refuted.{IsRefuted};
 ghost use Rattle.verdicts.specs.Verdicts.{shown_line};
-ghost use Rattle.verdicts.specs.declared.verdict.Verdict.TheVariants.{Verified};
+ghost use Rattle.verdicts.specs.declared.verdict.Verdict.TheVariants.{NotVerified, Verified};
 
 use crate::about::ABOUT;
 use command::{
@@ -15,14 +14,14 @@ use command::{
     open_inputs, progress_of, say_fault, warn_of_header,
 };
 use lrat_check::{Ids, RunFault, Verdict, exit_status, run_check};
-use receipt_files::{hold_digested, keep_refuted};
+use receipt_files::{hold_digested, refuted_by, show, whole_receipt};
 use sat_formula::{DimacsFault, LyingHeader};
 use std::io;
-use std::io::{BufWriter, Write};
+use std::io::Write;
 
 /// Checks a proof. All files are open before anything is read. The formula is read whole, and let
-/// go once its clauses are taken. A receipt gets its name once the verdict's line is written.
-/// Returns the exit status.
+/// go once its clauses are taken. A receipt is whole and has its name before the verdict's line is
+/// written. Returns the exit status.
 pub(crate) fn check_files<S: OutputSystem, W: Write>(
     system: &S,
     names: InputNames<'_>,
@@ -41,7 +40,14 @@ pub(crate) fn check_files<S: OutputSystem, W: Write>(
         → S.unwritten system.now ≡ Some [] → result ≡ Ok 0
         → GivesReceipt (S.place system.now) (choices_of call.now) (refuted_of text)
         (S.renamed given.old) (S.renamed given.new) }
-    ensures unnamed { result ≢ Ok 0 → S.renamed given.new ≡ S.renamed given.old }
+    ensures unnamed { result ≢ Ok 0 → result ≢ Ok 1 → S.renamed given.new ≡ S.renamed given.old }
+    ensures silent { IfErr result (λ status. out.new ≡ out.old) }
+    ensures unshown { (text : List ℕ)
+        → bytes_named (S.file_bytes system.now) (S.input_bytes system.now) names.entry.cnf.now ≡ Some text
+        → S.unwritten system.now ≡ Some [] → result ≡ Ok 1
+        → LeavesReceipt (S.place system.now) (choices_of call.now) (shown_line NotVerified)
+        (shown_line Verified) (IsRefuted text) (refuted_of text)
+        (W.contents out.old) (W.contents out.new) (S.renamed given.old) (S.renamed given.new) }
 {
     let cost = Cost::from_now(system);
     let (cnf, proof) = open_inputs(system, names.cnf, names.other).ok_or(NOT_RUN)?;
@@ -60,42 +66,30 @@ pub(crate) fn check_files<S: OutputSystem, W: Write>(
     let progress = progress_of(system, &ABOUT, call);
     let proof = proof.told(system, &progress);
     let mut lie = None;
-    let checked = run_check(system.alloc(), cnf.held, proof, ids, out, &mut lie);
-    let outcome = keep(system, &files, call, receipt, cnf.digest, checked, given);
+    let checked = run_check(
+        system.alloc(),
+        cnf.held,
+        proof,
+        ids,
+        &mut io::sink(),
+        &mut lie,
+    );
+    let said = refuted_by(cnf.digest);
+    let receipt = whole_receipt(system, call, receipt, said, &checked)?;
+    let line = line_of(&checked);
+    let outcome = show(&files, call, receipt, checked, line, unwritten, given, out);
     say_outcome(system, names, &outcome, &lie);
     say_cost(system, call, &outcome, cost);
     Ok(exit_status(&outcome))
 }
 
-/// Keeps the receipt of a run that was written to the end, if it is wanted.
-///
-/// # Errors
-///
-/// That of the run, or `Write` with the write or the rename that failed.
-fn keep<S: OutputSystem>(
-    system: &S,
-    files: &WrittenFiles<'_, S>,
-    call: &Call<'_>,
-    receipt: Option<BufWriter<S::Output>>,
-    digest: Option<[u8; 32]>,
-    checked: Result<Verdict, RunFault>,
-    given: &mut S::Names,
-) -> Result<Verdict, RunFault>
-    ensures verdict { IfOk result (λ verdict. checked ≡ Ok verdict) }
-    ensures named { (text : List ℕ) → IsDigestOf digest text
-        → written_in S.Output.contents receipt ≡ begun (receipt_name (choices_of call.now))
-        → result ≡ Ok Verified
-        → GivesReceipt (S.place files.now.system.now) (choices_of call.now) (refuted_of text)
-        (S.renamed given.old) (S.renamed given.new) }
-    ensures unnamed { result ≢ Ok Verified → S.renamed given.new ≡ S.renamed given.old }
+/// Returns the line of a verdict, if there is one.
+fn line_of(checked: &Result<Verdict, RunFault>) -> &'static [u8]
+    ensures { IfOk checked.now (λ verdict. result.now ≡ shown_line verdict) }
 {
-    let verdict = match checked {
-        Ok(verdict) => verdict,
-        Err(fault) => return Err(fault),
-    };
-    match keep_refuted(system.alloc(), files, call, receipt, digest, verdict, given) {
-        Ok(()) => Ok(verdict),
-        Err(fault) => Err(RunFault::Write(fault)),
+    match checked {
+        Ok(verdict) => verdict.line(),
+        Err(_) => b"",
     }
 }
 
@@ -128,6 +122,11 @@ fn say_cost<S: OutputSystem>(
 
 pub(crate) fn unread_formula(fault: io::Error) -> RunFault {
     RunFault::Formula(DimacsFault::of_error(fault))
+}
+
+/// Returns the fault of a verdict that was reached and not shown.
+pub(crate) fn unwritten(fault: io::Error) -> RunFault {
+    RunFault::Write(fault)
 }
 
 pub(crate) fn place_of(fault: &RunFault) -> FaultPlace<'static> {

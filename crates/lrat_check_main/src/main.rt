@@ -7,15 +7,15 @@
 //! What `RUST_LOG` asks for, as `RUST_LOG=info`, is logged to standard error; else nothing is.
 #![tactic(auto)]
 
-ghost use Rattle.std.specs.Prelude.{◌≡◌, ◌≢◌, ℕ, List, [], ◌∷◌, None, Ok, Some, codes, false};
+ghost use Rattle.std.specs.Prelude.{◌≡◌, ◌≢◌, ℕ, List, [], ◌∷◌, None, Ok, Some, codes, false, IfErr};
 ghost use Rattle.std.specs.Io.KnownBytes.{Appends};
 ghost use Rattle.command.specs.Calls.{choices_of, is_given, operands_of, value_given};
 ghost use Rattle.command.specs.Inputs.{bytes_named};
-ghost use Rattle.lrat_check_main.specs.Pieces.{KeepsPiece, ShowsPiece};
-ghost use Rattle.receipt_files.specs.Named.{GivesReceipt, refuted_of};
+ghost use Rattle.lrat_check_main.specs.Pieces.{KeepsPiece, LeavesPiece, ShowsPiece};
+ghost use Rattle.receipt_files.specs.Named.{GivesReceipt, LeavesReceipt, refuted_of};
 ghost use Rattle.sat_formula.specs.Refuted.{IsRefuted};
 ghost use Rattle.verdicts.specs.Verdicts.{shown_line};
-ghost use Rattle.verdicts.specs.declared.verdict.Verdict.TheVariants.{Verified};
+ghost use Rattle.verdicts.specs.declared.verdict.Verdict.TheVariants.{NotVerified, Verified};
 
 mod about;
 mod files;
@@ -78,7 +78,26 @@ fn run<S: OutputSystem, W: Write>(
         → S.unwritten system.now ≡ Some [] → result ≡ Ok 0
         → KeepsPiece (S.place system.now) (choices_of call.now) text wanted
         (W.contents out.old) (W.contents out.new) (S.renamed given.old) (S.renamed given.new) }
-    ensures unnamed { result ≢ Ok 0 → S.renamed given.new ≡ S.renamed given.old }
+    ensures unnamed { result ≢ Ok 0 → result ≢ Ok 1 → S.renamed given.new ≡ S.renamed given.old }
+    ensures silent { IfErr result (λ status. out.new ≡ out.old) }
+    ensures unshown { (cnf proof text : List ℕ)
+        → operands_of call.now ≡ cnf ∷ proof ∷ []
+        → is_given (choices_of call.now) (codes "--example") ≡ false
+        → value_given (choices_of call.now) (codes "--holds") ≡ None
+        → bytes_named (S.file_bytes system.now) (S.input_bytes system.now) cnf ≡ Some text
+        → S.unwritten system.now ≡ Some [] → result ≡ Ok 1
+        → LeavesReceipt (S.place system.now) (choices_of call.now) (shown_line NotVerified)
+        (shown_line Verified) (IsRefuted text) (refuted_of text)
+        (W.contents out.old) (W.contents out.new) (S.renamed given.old) (S.renamed given.new) }
+    ensures piece_unshown { (cnf proof holds text wanted : List ℕ)
+        → operands_of call.now ≡ cnf ∷ proof ∷ []
+        → is_given (choices_of call.now) (codes "--example") ≡ false
+        → value_given (choices_of call.now) (codes "--holds") ≡ Some holds
+        → bytes_named (S.file_bytes system.now) (S.input_bytes system.now) cnf ≡ Some text
+        → S.file_bytes system.now holds ≡ Some wanted
+        → S.unwritten system.now ≡ Some [] → result ≡ Ok 1
+        → LeavesPiece (S.place system.now) (choices_of call.now) text wanted
+        (W.contents out.old) (W.contents out.new) (S.renamed given.old) (S.renamed given.new) }
 {
     let ids = ids_of(system, &ABOUT, call, Ids::Plain, Ids::Doubled)?;
     if call.has("--example") {

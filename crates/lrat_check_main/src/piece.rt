@@ -1,11 +1,9 @@
 //! A piece of a proof, which must derive the target clauses of a file.
-ghost use Rattle.std.specs.Prelude.{◌≡◌, ◌≢◌, ℕ, List, [], IfOk, OnErr, Ok, Some};
+ghost use Rattle.std.specs.Prelude.{◌≡◌, ◌≢◌, ℕ, List, [], IfErr, IfOk, Ok, Some};
 ghost use Rattle.command.specs.Calls.{choices_of};
 ghost use Rattle.command.specs.Inputs.{bytes_named};
-ghost use Rattle.command.specs.Outputs.{begun, written_in};
-ghost use Rattle.lrat_check_main.specs.Pieces.{KeepsPiece, ShowsPiece};
-ghost use Rattle.receipt_files.specs.Named.{GivesReceipt, IsDigestOf, carries_of, receipt_name, refuted_of};
-ghost use Rattle.verdicts.specs.declared.piece.PieceVerdict.TheVariants.{Carried, NotCarried, Refuted};
+ghost use Rattle.lrat_check_main.specs.Pieces.{KeepsPiece, LeavesPiece, ShowsPiece};
+ghost use Rattle.verdicts.specs.Pieces.{piece_line};
 
 use crate::about::ABOUT;
 use crate::files::{place_of, unread_formula};
@@ -14,13 +12,14 @@ use command::{
     open_file, open_inputs, progress_of, say_fault, say_missing, warn_of_header,
 };
 use lrat_check::{Ids, PieceFault, PieceTold, PieceVerdict, RunFault, exit_status, run_piece};
-use receipt_files::{hold_digested, keep_piece};
+use receipt_files::{hold_digested, piece_receipt, show, whole_receipt};
 use sat_formula::DimacsFault;
 use std::io;
-use std::io::{BufWriter, Write};
+use std::io::Write;
 
 /// Checks a piece of a proof. All files are open before anything is read, and both formulas are
-/// read whole. A receipt gets its name once the verdict's line is written. Returns the exit status.
+/// read whole. A receipt is whole and has its name before the verdict's line is written. Returns
+/// the exit status.
 pub(crate) fn check_piece<'a, S: OutputSystem, W: Write>(
     system: &'a S,
     names: InputNames<'a>,
@@ -40,7 +39,14 @@ pub(crate) fn check_piece<'a, S: OutputSystem, W: Write>(
         → S.unwritten system.now ≡ Some [] → result ≡ Ok 0
         → KeepsPiece (S.place system.now) (choices_of call.now) text wanted
         (W.contents out.old) (W.contents out.new) (S.renamed given.old) (S.renamed given.new) }
-    ensures unnamed { result ≢ Ok 0 → S.renamed given.new ≡ S.renamed given.old }
+    ensures unnamed { result ≢ Ok 0 → result ≢ Ok 1 → S.renamed given.new ≡ S.renamed given.old }
+    ensures silent { IfErr result (λ status. out.new ≡ out.old) }
+    ensures unshown { (text wanted : List ℕ)
+        → bytes_named (S.file_bytes system.now) (S.input_bytes system.now) names.entry.cnf.now ≡ Some text
+        → S.file_bytes system.now holds_name.now ≡ Some wanted
+        → S.unwritten system.now ≡ Some [] → result ≡ Ok 1
+        → LeavesPiece (S.place system.now) (choices_of call.now) text wanted
+        (W.contents out.old) (W.contents out.new) (S.renamed given.old) (S.renamed given.new) }
 {
     let cost = Cost::from_now(system);
     let (cnf, piece) = open_inputs(system, names.cnf, names.other).ok_or(NOT_RUN)?;
@@ -74,58 +80,30 @@ pub(crate) fn check_piece<'a, S: OutputSystem, W: Write>(
         piece,
         ids,
         &mut told,
-        out,
+        &mut io::sink(),
     );
-    let outcome = keep(system, &files, call, receipt, digests, checked, given);
+    let said = piece_receipt(digests, &checked);
+    let receipt = whole_receipt(system, call, receipt, said, &checked)?;
+    let line = line_of(&checked);
+    let outcome = show(&files, call, receipt, checked, line, unwritten, given, out);
     say_outcome(system, names, holds_name, &outcome, &told);
     say_cost(system, call, &outcome, cost);
     Ok(exit_status(&outcome))
 }
 
-/// Keeps the receipt of a run that was written to the end, if it is wanted.
-///
-/// # Errors
-///
-/// That of the run, or `Write` with the write or the rename that failed.
-fn keep<S: OutputSystem>(
-    system: &S,
-    files: &WrittenFiles<'_, S>,
-    call: &Call<'_>,
-    receipt: Option<BufWriter<S::Output>>,
-    digests: (Option<[u8; 32]>, Option<[u8; 32]>),
-    checked: Result<PieceVerdict, PieceFault>,
-    given: &mut S::Names,
-) -> Result<PieceVerdict, PieceFault>
-    ensures verdict { IfOk result (λ verdict. checked ≡ Ok verdict) }
-    ensures carried { (text next : List ℕ) → IsDigestOf digests.0 text → IsDigestOf digests.1 next
-        → written_in S.Output.contents receipt ≡ begun (receipt_name (choices_of call.now))
-        → result ≡ Ok Carried
-        → GivesReceipt (S.place files.now.system.now) (choices_of call.now) (carries_of text next)
-        (S.renamed given.old) (S.renamed given.new) }
-    ensures refuted { (text : List ℕ) → IsDigestOf digests.0 text
-        → written_in S.Output.contents receipt ≡ begun (receipt_name (choices_of call.now))
-        → result ≡ Ok Refuted
-        → GivesReceipt (S.place files.now.system.now) (choices_of call.now) (refuted_of text)
-        (S.renamed given.old) (S.renamed given.new) }
-    ensures unshown { result ≡ Ok NotCarried → S.renamed given.new ≡ S.renamed given.old }
-    ensures kept { OnErr result (S.renamed given.new ≡ S.renamed given.old) }
+/// Returns the line of a verdict, if there is one.
+fn line_of(checked: &Result<PieceVerdict, PieceFault>) -> &'static [u8]
+    ensures { IfOk checked.now (λ verdict. result.now ≡ piece_line verdict) }
 {
-    let verdict = match checked {
-        Ok(verdict) => verdict,
-        Err(fault) => return Err(fault),
-    };
-    match keep_piece(
-        system.alloc(),
-        files,
-        call,
-        receipt,
-        digests,
-        verdict,
-        given,
-    ) {
-        Ok(()) => Ok(verdict),
-        Err(fault) => Err(PieceFault::Run(RunFault::Write(fault))),
+    match checked {
+        Ok(verdict) => verdict.line(),
+        Err(_) => b"",
     }
+}
+
+/// Returns the fault of a verdict that was reached and not shown.
+fn unwritten(fault: io::Error) -> PieceFault {
+    PieceFault::Run(RunFault::Write(fault))
 }
 
 /// Says why a run has no verdict, which target clause is missing, and which headers do not match.

@@ -1,13 +1,12 @@
 //! A formula and an answer, in files.
-ghost use Rattle.std.specs.Prelude.{◌≡◌, ◌≢◌, ℕ, List, [], IfOk, Ok, Some};
+ghost use Rattle.std.specs.Prelude.{◌≡◌, ◌≢◌, ℕ, List, [], IfErr, IfOk, Ok, Some, codes};
 ghost use Rattle.std.specs.Io.KnownBytes.{Appends};
 ghost use Rattle.command.specs.Calls.{choices_of};
 ghost use Rattle.command.specs.Inputs.{bytes_named};
-ghost use Rattle.command.specs.Outputs.{begun, written_in};
 ghost use Rattle.model_check.specs.Models.{IsSatisfiedBy};
 ghost use Rattle.model_check.specs.Verdicts.{shown_line};
 ghost use Rattle.model_check.specs.declared.verdict.Verdict.TheVariants.{Verified};
-ghost use Rattle.receipt_files.specs.Named.{GivesReceipt, IsDigestOf, receipt_name, satisfied_of};
+ghost use Rattle.receipt_files.specs.Named.{GivesReceipt, LeavesReceipt, satisfied_of};
 
 use answer_text::AnswerFault;
 use command::{
@@ -15,13 +14,13 @@ use command::{
     open_inputs, say_fault, warn_of_header,
 };
 use model_check::{RunFault, Verdict, exit_status, run_check};
-use receipt_files::{Receipt, hold_digested, name_receipt};
+use receipt_files::{hold_digested, satisfied_by, show, whole_receipt};
 use sat_formula::DimacsFault;
 use std::io;
-use std::io::{BufWriter, Eprint, Write};
+use std::io::{Eprint, Write};
 
 /// Checks an answer. All files are open before anything is read, and both others are read whole. A
-/// receipt gets its name once the verdict's line is written. Returns the exit status.
+/// receipt is whole and has its name before the verdict's line is written. Returns the exit status.
 pub(crate) fn check_files<S: OutputSystem, W: Write>(
     system: &S,
     names: InputNames<'_>,
@@ -40,7 +39,15 @@ pub(crate) fn check_files<S: OutputSystem, W: Write>(
         → S.unwritten system.now ≡ Some [] → result ≡ Ok 0
         → GivesReceipt (S.place system.now) (choices_of call.now) (satisfied_of text)
         (S.renamed given.old) (S.renamed given.new) }
-    ensures unnamed { result ≢ Ok 0 → S.renamed given.new ≡ S.renamed given.old }
+    ensures unnamed { result ≢ Ok 0 → result ≢ Ok 1 → S.renamed given.new ≡ S.renamed given.old }
+    ensures silent { IfErr result (λ status. out.new ≡ out.old) }
+    ensures unshown { (text said : List ℕ)
+        → bytes_named (S.file_bytes system.now) (S.input_bytes system.now) names.entry.cnf.now ≡ Some text
+        → bytes_named (S.file_bytes system.now) (S.input_bytes system.now) names.entry.other.now ≡ Some said
+        → S.unwritten system.now ≡ Some [] → result ≡ Ok 1
+        → LeavesReceipt (S.place system.now) (choices_of call.now) (codes "s NOT VERIFIED\n")
+        (shown_line Verified) (IsSatisfiedBy text said) (satisfied_of text)
+        (W.contents out.old) (W.contents out.new) (S.renamed given.old) (S.renamed given.new) }
 {
     let (cnf, answer) = open_inputs(system, names.cnf, names.other).ok_or(NOT_RUN)?;
     let mut files = WrittenFiles::new(system);
@@ -57,8 +64,11 @@ pub(crate) fn check_files<S: OutputSystem, W: Write>(
         receipt.is_some(),
     )?;
     let mut lie = None;
-    let checked = run_check(system.alloc(), cnf.held, answer, out, &mut lie);
-    let outcome = keep(system, &files, call, receipt, cnf.digest, checked, given);
+    let checked = run_check(system.alloc(), cnf.held, answer, &mut io::sink(), &mut lie);
+    let said = satisfied_by(cnf.digest);
+    let receipt = whole_receipt(system, call, receipt, said, &checked)?;
+    let line = line_of(&checked);
+    let outcome = show(&files, call, receipt, checked, line, unwritten, given, out);
     match &outcome {
         Ok(Verdict::Verified) => {}
         Ok(Verdict::NotVerified { clause, line }) => say_unmet(system, *clause, *line),
@@ -70,44 +80,19 @@ pub(crate) fn check_files<S: OutputSystem, W: Write>(
     Ok(exit_status(&outcome))
 }
 
-/// Keeps the receipt of a run that was written to the end, if the answer satisfies the formula and
-/// the receipt is wanted.
-///
-/// # Errors
-///
-/// That of the run, or `Write` with the write or the rename that failed.
-fn keep<S: OutputSystem>(
-    system: &S,
-    files: &WrittenFiles<'_, S>,
-    call: &Call<'_>,
-    receipt: Option<BufWriter<S::Output>>,
-    digest: Option<[u8; 32]>,
-    checked: Result<Verdict, RunFault>,
-    given: &mut S::Names,
-) -> Result<Verdict, RunFault>
-    ensures verdict { IfOk result (λ verdict. checked ≡ Ok verdict) }
-    ensures named { (text : List ℕ) → IsDigestOf digest text
-        → written_in S.Output.contents receipt ≡ begun (receipt_name (choices_of call.now))
-        → result ≡ Ok Verified
-        → GivesReceipt (S.place files.now.system.now) (choices_of call.now) (satisfied_of text)
-        (S.renamed given.old) (S.renamed given.new) }
-    ensures unnamed { result ≢ Ok Verified → S.renamed given.new ≡ S.renamed given.old }
+/// Returns the line of a verdict, if there is one.
+fn line_of(checked: &Result<Verdict, RunFault>) -> &'static [u8]
+    ensures { IfOk checked.now (λ verdict. result.now ≡ shown_line verdict) }
 {
-    let verdict = match checked {
-        Ok(verdict) => verdict,
-        Err(fault) => return Err(fault),
-    };
-    if let Verdict::NotVerified { .. } = verdict {
-        return Ok(verdict);
+    match checked {
+        Ok(verdict) => verdict.line(),
+        Err(_) => b"",
     }
-    let shown = match digest {
-        Some(digest) => Some(Receipt::Satisfied(digest)),
-        None => None,
-    };
-    match name_receipt(system.alloc(), files, call, receipt, shown, given) {
-        Ok(()) => Ok(verdict),
-        Err(fault) => Err(RunFault::Write(fault)),
-    }
+}
+
+/// Returns the fault of a verdict that was reached and not shown.
+fn unwritten(fault: io::Error) -> RunFault {
+    RunFault::Write(fault)
 }
 
 fn unread_answer(fault: io::Error) -> RunFault {

@@ -5,14 +5,14 @@
 //! example. The name `-` is standard input.
 #![tactic(auto)]
 
-ghost use Rattle.std.specs.Prelude.{◌≡◌, ◌≢◌, ℕ, List, [], ◌∷◌, Ok, Some, codes, false};
+ghost use Rattle.std.specs.Prelude.{◌≡◌, ◌≢◌, ℕ, List, [], ◌∷◌, Ok, Some, codes, false, IfErr};
 ghost use Rattle.std.specs.Io.KnownBytes.{Appends};
 ghost use Rattle.command.specs.Calls.{choices_of, is_given, operands_of};
 ghost use Rattle.command.specs.Inputs.{bytes_named};
 ghost use Rattle.model_check.specs.Models.{IsSatisfiedBy};
 ghost use Rattle.model_check.specs.Verdicts.{shown_line};
 ghost use Rattle.model_check.specs.declared.verdict.Verdict.TheVariants.{Verified};
-ghost use Rattle.receipt_files.specs.Named.{GivesReceipt, satisfied_of};
+ghost use Rattle.receipt_files.specs.Named.{GivesReceipt, LeavesReceipt, satisfied_of};
 
 mod about;
 mod files;
@@ -61,7 +61,17 @@ fn run<S: OutputSystem, W: Write>(
         → S.unwritten system.now ≡ Some [] → result ≡ Ok 0
         → GivesReceipt (S.place system.now) (choices_of call.now) (satisfied_of text)
         (S.renamed given.old) (S.renamed given.new) }
-    ensures unnamed { result ≢ Ok 0 → S.renamed given.new ≡ S.renamed given.old }
+    ensures unnamed { result ≢ Ok 0 → result ≢ Ok 1 → S.renamed given.new ≡ S.renamed given.old }
+    ensures silent { IfErr result (λ status. out.new ≡ out.old) }
+    ensures unshown { (cnf answer text said : List ℕ)
+        → operands_of call.now ≡ cnf ∷ answer ∷ []
+        → is_given (choices_of call.now) (codes "--example") ≡ false
+        → bytes_named (S.file_bytes system.now) (S.input_bytes system.now) cnf ≡ Some text
+        → bytes_named (S.file_bytes system.now) (S.input_bytes system.now) answer ≡ Some said
+        → S.unwritten system.now ≡ Some [] → result ≡ Ok 1
+        → LeavesReceipt (S.place system.now) (choices_of call.now) (codes "s NOT VERIFIED\n")
+        (shown_line Verified) (IsSatisfiedBy text said) (satisfied_of text)
+        (W.contents out.old) (W.contents out.new) (S.renamed given.old) (S.renamed given.new) }
 {
     if call.has("--example") {
         return Ok(check_example(system, out));

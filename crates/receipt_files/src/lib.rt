@@ -1,12 +1,13 @@
 //! Receipts in files: what a checker has shown of the bytes that it holds, written to a file that
-//! gets its name last.
+//! is whole before it gets its name, and has its name before the verdict's line is written.
 #![tactic(auto)]
 
 mod digested;
-mod kept;
-mod named;
+mod said;
+mod shown;
+mod whole;
 
 pub use digested::{Digested, hold_digested};
-pub use kept::{keep_piece, keep_refuted};
-pub use named::{RECEIPT, name_receipt};
-pub use receipts::Receipt;
+pub use said::{piece_receipt, refuted_by, satisfied_by};
+pub use shown::show;
+pub use whole::{RECEIPT, whole_receipt};

@@ -53,3 +53,28 @@ returns-in-None-clause-unnamed g c = c.check_files.ensures.unnamed
 
 pub returns-in-Some-clause-unnamed : goal.returns-in-Some-clause-unnamed
 returns-in-Some-clause-unnamed g c = c.check_piece.ensures.unnamed
+
+pub returns-in-None-clause-silent : goal.returns-in-None-clause-silent
+returns-in-None-clause-silent g c = c.check_files.ensures.silent
+
+pub returns-in-Some-clause-silent : goal.returns-in-Some-clause-silent
+returns-in-Some-clause-silent g c = c.check_piece.ensures.silent
+
+pub returns-in-None-clause-unshown : goal.returns-in-None-clause-unshown
+returns-in-None-clause-unshown g c cnf proof text operands alone none known fresh failed =
+    let first = first_name _ _ _ _ _ operands c.in_ok-names.ensures.ok in
+    c.check_files.ensures.unshown text (rw first at known) fresh failed
+
+pub returns-in-Some-clause-unshown : goal.returns-in-Some-clause-unshown
+returns-in-Some-clause-unshown g c cnf proof text operands alone none known fresh failed =
+    absurd (some_and_none _ _ c.in-Some.ensures none)
+
+pub returns-in-Some-clause-piece_unshown : goal.returns-in-Some-clause-piece_unshown
+returns-in-Some-clause-piece_unshown g c cnf proof holds text wanted operands alone said known other fresh failed =
+    let first = first_name _ _ _ _ _ operands c.in_ok-names.ensures.ok in
+    let third = same_value _ _ _ c.in-Some.ensures said in
+    c.check_piece.ensures.unshown text wanted (rw first at known) (rw third at other) fresh failed
+
+pub returns-in-None-clause-piece_unshown : goal.returns-in-None-clause-piece_unshown
+returns-in-None-clause-piece_unshown g c cnf proof holds text wanted operands alone said known other fresh failed =
+    absurd (none_and_some _ _ c.in-None.ensures said)
