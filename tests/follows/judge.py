@@ -5,11 +5,14 @@ judge.py FOLLOWS_CHECK MINIMAL_CHECK COUNT SEED
 Of random formulas and claims over few variables: the formula that `--formula` writes, compared with one that is made here by its
 definition; a proof where the claims follow, and where they do not the first claim that an answer fails, with the line on which it
 ends. A proof where they do not follow is never verified. Of random cores whose clauses are left out one by one: models, and models of
-which one is exchanged. At the end solvers, where they are installed.
+which one is exchanged; their variables are the first ones or any up to the last, in a memory that has no room for all. At the end solvers,
+where they are installed.
 """
 
 import itertools
 import random
+import re
+import resource
 import shutil
 import subprocess
 import sys
@@ -22,6 +25,7 @@ from dimacs import dimacs, lines, variables  # noqa: E402
 
 FOLLOWS, NOT_FOLLOWS = "s VERIFIED FOLLOWS\n", "s VERIFIED NOT FOLLOWS\n"
 MINIMAL, NOT_VERIFIED = "s VERIFIED MINIMAL\n", "s NOT VERIFIED\n"
+LAST_VARIABLE, MEMORY = 268435456, 150_000 * 1024
 
 
 def is_met(clause, values):
@@ -53,6 +57,15 @@ def all_cases(count):
     return lines(cases)
 
 
+def named(clauses, names):
+    """The text of clauses whose variables get these names."""
+    return re.sub("[1-9][0-9]*", lambda found: str(names[int(found[0]) - 1]), clauses)
+
+
+def limit_memory():
+    resource.setrlimit(resource.RLIMIT_AS, (MEMORY, MEMORY))
+
+
 class Tries:
     def __init__(self, follows, minimal, folder):
         self.programs = {"follows": follows, "minimal": minimal}
@@ -64,7 +77,7 @@ class Tries:
 
     def run(self, program, *words):
         command = [self.programs[program], *words]
-        done = subprocess.run(command, cwd=self.folder, capture_output=True, text=True, timeout=60)
+        done = subprocess.run(command, cwd=self.folder, capture_output=True, text=True, timeout=60, preexec_fn=limit_memory)
         return done.returncode, done.stdout, done.stderr.partition("\n")[0]
 
     def wants(self, kind, program, words, *wanted):
@@ -113,25 +126,28 @@ class Tries:
             told = f"claims: line {failed[0] + 1}: claim {failed[0]} fails"
             self.wants("an answer", "follows", words, 10, NOT_FOLLOWS, told)
 
-    def core(self, core, source):
+    def core(self, core, source, names):
+        """A core, whose variables get these names."""
         count = variables(core)
         models = [next(satisfying(core[:place] + core[place + 1 :], count)) for place in range(len(core))]
-        self.write(core=dimacs(core), proof=all_cases(count), models=lines(models))
+        header = f"p cnf {max([0, *names[:count]])}"
+        self.write(core=f"{header} {len(core)}\n{named(lines(core), names)}", proof=named(all_cases(count), names), models=named(lines(models), names))
         words = ["core", "proof", "models"]
         self.wants("a core", "minimal", words, 0, MINIMAL, "")
         # a model of another clause, and one that is missing
         place, values = source.randrange(len(core)), source.choice(list(assignments(count)))
         unmet = [number for number, clause in enumerate(core) if number != place and not is_met(clause, values)]
-        self.write(models=lines([*models[:place], values, *models[place + 1 :]]))
+        self.write(models=named(lines([*models[:place], values, *models[place + 1 :]]), names))
         if unmet:
             told = f"models: that for clause {place + 1} does not satisfy clause {unmet[0] + 1}"
             self.wants("another model", "minimal", words, 3, NOT_VERIFIED, told)
         else:
             self.wants("another model that will do", "minimal", words, 0, MINIMAL, "")
-        self.write(models=lines(models[:place]))
+        self.write(models=named(lines(models[:place]), names))
         told = f"models: there is none for clause {place + 1}"
         self.wants("a missing model", "minimal", words, 3, NOT_VERIFIED, told)
-        self.write(core=dimacs([*core, core[place]]), models=lines([*models, models[place]]))
+        twice, models = [*core, core[place]], [*models, models[place]]
+        self.write(core=f"{header} {len(twice)}\n{named(lines(twice), names)}", models=named(lines(models), names))
         told = f"models: that for clause {place + 1} does not satisfy clause {len(core) + 1}"
         self.wants("a clause that stands twice", "minimal", words, 3, NOT_VERIFIED, told)
 
@@ -167,7 +183,8 @@ def try_cores(tries, source, rounds):
             without = [it for it in core if it is not clause]
             if next(satisfying(without, count), None) is None:
                 core = without
-        tries.core(core, source)
+        tries.core(core, source, range(1, count + 1))
+        tries.core(core, source, source.sample([*range(1, 5), *range(LAST_VARIABLE - 3, LAST_VARIABLE + 1)], count))
 
 
 def try_solver(tries, source):

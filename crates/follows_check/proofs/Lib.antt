@@ -1,5 +1,6 @@
 mod AnswerLemmas
 mod Answered
+mod Assigning
 mod Needed
 mod Selecting
 mod Shown

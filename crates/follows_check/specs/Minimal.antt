@@ -1,11 +1,12 @@
 -- Formulas of which each clause is needed.
---     truth_in values x      the value of a variable, by a list of values
---     assigned model values      the values after those that a model lists
+--     truth_in values x      the value of a variable
+--     assigned model truth      the values after those that a model lists
 --     without i cs      the clauses without the one at this place
 --     IsMinimalText text      no assignment satisfies the clauses of the text, and each of them is needed for that
 --     ShowsMinimal formula verdict      a verdict that is true
 --     minimal_line verdict, shows_minimal verdict      its line;  whether that is what was asked
-use Rattle.std.specs.Prelude.{◌≡◌, ◌<◌, ℕ, zero, suc, not, Bool, true, false, List, [], ◌∷◌, length, codes, slice_index_or, slice_set}
+use Rattle.std.specs.Prelude.{◌≡◌, ◌<◌, ◌==◌, ℕ, zero, suc, nat_eq, nat_lt, not, Bool, true, false, List, [], ◌∷◌, length, codes, if◌then◌else◌, slice_index_or}
+use Rattle.std.specs.HashSet.{contains}
 use Rattle.sat_rules.specs.Clauses.{all_true, is_negative, var_of}
 use Rattle.sat_formula.specs.Lines.{outcome_of}
 use Rattle.sat_formula.specs.Outcome.{Ended}
@@ -13,16 +14,17 @@ use Rattle.sat_formula.specs.Lies.{lie_in}
 use Rattle.refutation_rules.specs.Minimal.{IsMinimal}
 use Rattle.follows_check.specs.Claims.{lacks_clauses}
 use Rattle.follows_check.specs.declared.minimal.MinimalVerdict.{MinimalVerdict}
+use Rattle.follows_check.specs.declared.values.Values.{Values}
 use Rattle.follows_check.specs.declared.minimal.MinimalVerdict.TheVariants.{Minimal, Open, NoModel, Unmet}
 
--- the value of a variable, which is false where there is none
-abbrev pub truth_in : List Bool → ℕ → Bool
-truth_in values x = slice_index_or values x false
+-- a variable without a place is true if it is in the set
+abbrev pub truth_in : Values → ℕ → Bool
+truth_in values x = if nat_lt x (length values.near.items) then slice_index_or values.near.items x false else contains nat_eq values.far x
 
 -- each variable that a model lists has the value that it says, and all others have theirs
-abbrev pub assigned : List ℕ → List Bool → List Bool
-assigned [] values = values
-assigned (l ∷ model) values = assigned model (slice_set values (var_of l) (not (is_negative l)))
+abbrev pub assigned : List ℕ → (ℕ → Bool) → ℕ → Bool
+assigned [] truth x = truth x
+assigned (l ∷ model) truth x = assigned model (λ y. if y == var_of l then not (is_negative l) else truth y) x
 
 -- the clauses without the one at this place
 abbrev pub without : ℕ → List (List ℕ) → List (List ℕ)

@@ -16,6 +16,7 @@ mod question;
 mod refuting;
 mod run;
 mod selectors;
+mod values;
 mod verdict;
 
 pub use answer::run_answer;

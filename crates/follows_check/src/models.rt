@@ -1,10 +1,11 @@
 //! Models of all clauses but one, for one clause after the other.
 ghost use Rattle.std.specs.Prelude.{◌≡◌, ◌≢◌, None, true, IfOk};
-ghost use Rattle.sat_rules.specs.Clauses.{all_true, clause_true, lit_true};
-ghost use Rattle.follows_check.specs.Minimal.{EachIsNeeded, assigned, truth_in, without};
+ghost use Rattle.sat_rules.specs.Clauses.{all_true};
+ghost use Rattle.follows_check.specs.Minimal.{EachIsNeeded, truth_in, without};
 
 use crate::minimal::MinimalVerdict;
-use sat_formula::{CnfFormula, DimacsFault, DimacsReader, Lit};
+use crate::values::Values;
+use sat_formula::{CnfFormula, DimacsFault, DimacsReader};
 use std::alloc::Global;
 use std::io::Read;
 
@@ -24,16 +25,18 @@ pub(crate) fn check_models<M: Read + Drop>(
 {
     let mut reader = DimacsReader::new(alloc, models);
     let mut model = Vec::new(alloc);
-    let mut values = Vec::new(alloc);
-    if values.resize(formula.var_count(), false).is_err() {
-        return Err(DimacsFault::OutOfMemory);
-    }
+    let mut values = match Values::new(alloc, formula) {
+        Ok(values) => values,
+        Err(_) => return Err(DimacsFault::OutOfMemory),
+    };
     for index in 0..formula.len() {
         let clause = index as u64 + 1;
         if !reader.next_clause(&mut model)? {
             return Ok(MinimalVerdict::NoModel { clause });
         }
-        assign(&mut values, &model);
+        if values.assign(&model).is_err() {
+            return Err(DimacsFault::OutOfMemory);
+        }
         match unmet_beside(formula, index, &values) {
             Some(unmet) => {
                 return Ok(MinimalVerdict::Unmet {
@@ -47,44 +50,17 @@ pub(crate) fn check_models<M: Read + Drop>(
     Ok(MinimalVerdict::Minimal)
 }
 
-/// Assigns the variables that a model lists.
-fn assign(values: &mut [bool], model: &[Lit])
-    ensures { values.new ≡ assigned model.now values.old }
-{
-    for lit in model {
-        let index = lit.index();
-        if index < values.len() {
-            values[index] = lit.is_positive();
-        }
-    }
-}
-
 /// Returns the number of the first clause that the values do not satisfy, of all but the one at
 /// this index. Numbers count from 1.
-fn unmet_beside(formula: &CnfFormula, place: usize, values: &[bool]) -> Option<u64>
+fn unmet_beside(formula: &CnfFormula, place: usize, values: &Values) -> Option<u64>
     ensures { result ≡ None → all_true (truth_in values.now) (without place formula.now) ≡ true }
 {
     let mut clauses = formula.iter();
     for index in 0..formula.len() {
         let clause = clauses.next()?;
-        if index != place && !is_met(values, clause) {
+        if index != place && !values.meet(clause) {
             return Some(index as u64 + 1);
         }
     }
     None
-}
-
-/// Returns whether a literal of the clause is true.
-fn is_met(values: &[bool], clause: &[Lit]) -> bool
-    ensures { result ≡ clause_true (truth_in values.now) clause.now }
-{
-    clause.iter().any(|lit| is_true(values, *lit))
-}
-
-fn is_true(values: &[bool], lit: Lit) -> bool
-    ensures { result ≡ lit_true (truth_in values.now) lit }
-{
-    let index = lit.index();
-    let value = index < values.len() && values[index];
-    if lit.is_negative() { !value } else { value }
 }
