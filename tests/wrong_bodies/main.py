@@ -144,29 +144,33 @@ def all_of(name):
     return {label for label, _ in bodies(f"{ROOT}/crates/{name}")}
 
 
+def is_now(record):
+    """Whether a record is of all wrong bodies, over what stands here and below now."""
+    return record.is_whole() and record.is_of_below()
+
+
 def new_of(name):
-    """The wrong bodies that the record lacks, or all where the crate has changed since."""
+    """The wrong bodies that the record lacks, or all where the crate has changed since, or what its check can see below."""
     record = Record(f"{ROOT}/crates/{name}")
-    return record.lacking() if record.is_of_crate() else all_of(name)
+    return record.lacking() if record.is_of_crate() and record.is_of_below() else all_of(name)
 
 
 def try_new(names, after_gate):
     """Tries what the records lack, of crates where it is something."""
-    return try_crates({it: new_of(it) for it in names if not Record(f"{ROOT}/crates/{it}").is_whole()}, after_gate)
+    return try_crates({it: new_of(it) for it in names if not is_now(Record(f"{ROOT}/crates/{it}"))}, after_gate)
 
 
 def in_turn(minutes):
     """Tries the crates whose records are stale, one after the other; none is begun once the minutes are over."""
     end, well = time.time() + 60 * minutes, True
     for name in crates_with_wrong_bodies():
-        record = Record(f"{ROOT}/crates/{name}")
-        if record.is_whole() and record.is_of_below():
+        if is_now(Record(f"{ROOT}/crates/{name}")):
             continue
         if time.time() > end:
             print("not tried yet:", name)
             well = False
             continue
-        well = try_crates({name: new_of(name) if record.is_of_below() else all_of(name)}) and well
+        well = try_crates({name: new_of(name)}) and well
     return well
 
 
