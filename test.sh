@@ -31,6 +31,8 @@ proved=0
 LD_PRELOAD=$told/keep.so rt ci 2>&1 | tee "$told/gate" || proved=$?
 python3 -B tests/wrong_bodies/toolchain.py .
 ((proved == 0)) || exit "$proved"
+# What `tools/changed` compares a change with.
+tools/changed --passed
 tests/weak_edits.sh "$told/gate"
 
 archive=$(bindings/build.sh --archive)
