@@ -93,6 +93,7 @@ mkdir -p out/rlib out/incremental
 touch out/rlib/library out/rlib/stamp out/incremental/kept
 END
 chmod +x rt
+unset RT_JOBS
 export WORK=$work RT=$work/rt TMPDIR=$work/room
 
 # is WHAT FOUND EXPECTED
