@@ -56,7 +56,9 @@ class Both:
         other, others = self.called.check(self.put("icnf", said), self.put("proof", proof))
         self.count += 1
         self.shown += status == 0
-        if (status == 0) != (other == 0) and not several:
+        # (of no query the program says that there is none, and the script, by its status, that no answer was seen)
+        is_shown = other == (0 if any(line.startswith("q") for line in said) else 3)
+        if (status == 0) != is_shown and not several:
             self.report(f"{what}: status {status}, and that of sessions is {other}: {others}", proof, printed)
         asked = [line for line in said if not several or line[:1] != "f"]
         if status in (0, 3) and len(said) < 150 and not all(it for place, it in enumerate(true_answers(asked), 1) if place in shown):
