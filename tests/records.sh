@@ -8,7 +8,7 @@ mkdir -p tests crates/{low,high}/{src,specs} crates/high/wrong-bodies
 cp -r "$top"/tests/wrong_bodies{,.sh} tests
 printf 'low:\nhigh: low\n' > crates.txt
 printf 'high one\n' > tests/wrong_bodies/always.txt
-: > tests/wrong_bodies/older.txt
+: > tests/wrong_bodies/waiting.txt
 cat > crates/low/src/lib.rt << 'END'
 //! Numbers.
 use std::alloc::Global;
@@ -102,12 +102,12 @@ case_below() {
   says 1 "$below" 'a definition below that is imported from elsewhere' low/specs/Numbers.antt Units Unused
 }
 
-# A crate that is known to be older is let pass while it is, and no longer.
-case_older() {
-  echo high >> tests/wrong_bodies/older.txt
+# A crate that waits to be tried anew is let pass while it does, and no longer.
+case_waiting() {
+  echo high >> tests/wrong_bodies/waiting.txt
   says 0 '' 'a contract below' low/src/lib.rt 'result ≡ 7' 'result ≡ 8'
-  says 1 "$own" 'a body of the crate' high/src/lib.rt 'let two' 'let deux'
-  says 1 'these are tried over what stands below, and tests/wrong_bodies/older.txt is not to name them' 'a comment below' \
+  says 0 '' 'a body of the crate' high/src/lib.rt 'let two' 'let deux'
+  says 1 'these are tried over what stands now, and tests/wrong_bodies/waiting.txt is not to name them' 'a comment below' \
     low/src/lib.rt 'A number' 'One number'
 }
 

@@ -8,8 +8,8 @@
 #                                              is not proved once more, but taken by its contract
 #   tests/wrong_bodies.sh --stale [MINUTES]    those of the crates whose record is of something else by now, one crate after the
 #                                              other; none is begun after this many minutes. The next call goes on from there
-#   tests/wrong_bodies.sh --records     whether what was noted is still of what stands there; it tries nothing. The contracts below may be
-#                                       newer for crates that tests/wrong_bodies/older.txt names
+#   tests/wrong_bodies.sh --records     whether what was noted is still of what stands there; it tries nothing, and passes over the crates
+#                                       that tests/wrong_bodies/waiting.txt names
 #   tests/wrong_bodies.sh --asked       those that tests/wrong_bodies/always.txt names. The functions that they call are taken by their
 #                                       contracts, so `rt ci` has to have proved them. Nothing is noted
 #

@@ -32,25 +32,24 @@ from records import ROOT, Record, bodies, crates_with_wrong_bodies
 BATCH, PROGRAM_BATCH = 30, 8
 
 
-def known_older():
-    """The crates of `older.txt`, whose records are over older contracts below."""
-    with open(f"{ROOT}/tests/wrong_bodies/older.txt", encoding="utf-8") as file:
+def waiting():
+    """The crates of `waiting.txt`, whose wrong bodies are still to be tried over what stands now."""
+    with open(f"{ROOT}/tests/wrong_bodies/waiting.txt", encoding="utf-8") as file:
         return [line.strip() for line in file if not line.startswith("#")]
 
 
 def check_records():
     """Fails where a crate or its wrong bodies have changed, or what its check can see below, and where one that each run tries is gone."""
     records = {it: Record(f"{ROOT}/crates/{it}") for it in crates_with_wrong_bodies()}
-    own = [it for it, record in records.items() if not record.is_whole()]
+    own = [it for it, record in records.items() if not record.is_whole() and it not in waiting()]
     if own:
         print("wrong bodies were not tried since these changed; run: tests/wrong_bodies.sh --new", *own)
-    older = [it for it, record in records.items() if it not in own and not record.is_of_below()]
-    below = [it for it in older if it not in known_older()]
+    below = [it for it, record in records.items() if record.is_whole() and not record.is_of_below() and it not in waiting()]
     if below:
         print("wrong bodies are to be tried again over the definitions and clauses below, by --stale:", *below)
-    tried = [it for it in known_older() if it not in older + own]
+    tried = [it for it in waiting() if is_now(records[it])]
     if tried:
-        print("these are tried over what stands below, and tests/wrong_bodies/older.txt is not to name them:", *tried)
+        print("these are tried over what stands now, and tests/wrong_bodies/waiting.txt is not to name them:", *tried)
     gone = always.missing()
     if gone:
         print("wrong bodies that each run tries are not there:", *gone)
