@@ -53,7 +53,7 @@ same 'what is taken' './edits/6:edit
 ./proof-low_above3:above
 ./tests-low4:mine' "$(listed)"
 
-touch "$work/two/kit/bin/rt"
+touch -d 2025-01-01 "$work/two/kit/bin/rt"
 says 1 "$work/file is of another toolchain, or of one whose files have other times" "$here/tools/kept" take "$work/file"
 cp -a "$work/one/kit" "$work/two/"
 
