@@ -171,7 +171,7 @@ case_rust() {
     cp -R "$top/bindings/rust" "$work/linted"
     CARGO_TARGET_DIR=$work/lints quiet cargo clippy -q --manifest-path "$work/linted/Cargo.toml" -- -D clippy::incompatible_msrv
   else
-    echo 'clippy is not installed: the version of Rust that is needed: not tried'
+    not_tried 'clippy is not installed, the version of Rust that is needed'
   fi
 }
 

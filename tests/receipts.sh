@@ -65,7 +65,7 @@ unwritten() {
     wants 1 '' $'error writing: No space left on device (os error 28)\nin small/receipt' on_full_disk "$@" --receipt small/receipt
     [[ $(cat left) == full ]] || fault "left on a full disk: $(cat left)"
   else
-    echo 'no namespaces here: not tried on a full disk'
+    not_tried 'no namespaces here, a full disk'
   fi
   # the line comes last, behind a receipt that is whole
   wants 0 "$(cat receipt.wanted)"$'\n'"$line" '' bash -c '"$@" | cat' - "$@" --receipt /dev/stdout
