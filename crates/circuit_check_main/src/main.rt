@@ -45,7 +45,7 @@ use crate::never::run_of_never;
 use crate::reached::run_of_reached;
 use crate::safe::run_of_safe;
 use crate::same::run_of_same;
-use command::{Call, HostNames, OutputSystem, run_program};
+use command::{Call, HostNames, OutputSystem, Refusal, run_program};
 use std::io;
 use std::io::Write;
 use std::process::ExitCode;
@@ -62,7 +62,7 @@ fn run<S: OutputSystem, W: Write>(
     call: &Call<'_>,
     given: &mut S::Names,
     out: &mut W,
-) -> Result<u8, u8>
+) -> Result<u8, Refusal>
     ensures never { (circuit proof text : List ℕ)
         → operands_of call.now ≡ codes "never" ∷ circuit ∷ []
         → is_given (choices_of call.now) (codes "--example") ≡ false

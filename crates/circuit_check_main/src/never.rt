@@ -16,7 +16,7 @@ use crate::files::open;
 use crate::formulas::{create_formula, name_formula};
 use crate::options::{Files, ONE_FILE, files_of};
 use circuit_check::{ProofFormat, exit_status, run_never, run_possible, write_never};
-use command::{Call, OutputSystem, ReadFile, System, WrittenFiles, misused, say_cause};
+use command::{Call, OutputSystem, ReadFile, Refusal, System, WrittenFiles, misused, say_cause};
 use log::sink::Discard;
 use std::io::Write;
 
@@ -28,7 +28,7 @@ pub(crate) fn run_of_never<S: OutputSystem, W: Write>(
     circuit: &str,
     given: &mut S::Names,
     out: &mut W,
-) -> Result<u8, u8>
+) -> Result<u8, Refusal>
     ensures never { (proof text : List ℕ)
         → value_given (choices_of call.now) (codes "--proof") ≡ Some proof
         → S.file_bytes system.now circuit.now ≡ Some text
@@ -72,7 +72,7 @@ fn prove_never<S: System, W: Write>(
     circuit: &str,
     proof: &str,
     out: &mut W,
-) -> Result<u8, u8>
+) -> Result<u8, Refusal>
     ensures never { (text : List ℕ) → S.file_bytes system.now circuit.now ≡ Some text
         → result ≡ Ok 0 → IsNeverText text }
     ensures line { result ≡ Ok 0
@@ -99,7 +99,7 @@ fn answer_never<S: System, W: Write>(
     circuit: &str,
     answer: &str,
     out: &mut W,
-) -> Result<u8, u8>
+) -> Result<u8, Refusal>
     ensures possible { (text : List ℕ) → S.file_bytes system.now circuit.now ≡ Some text
         → result ≡ Ok 0 → IsPossibleText text }
     ensures lines { (text said : List ℕ) → S.file_bytes system.now circuit.now ≡ Some text
@@ -122,7 +122,7 @@ fn formula_of_never<S: OutputSystem>(
     circuit: &str,
     formula: &str,
     given: &mut S::Names,
-) -> Result<u8, u8>
+) -> Result<u8, Refusal>
     ensures named { (text : List ℕ) → S.file_bytes system.now circuit.now ≡ Some text
         → S.unwritten system.now ≡ Some [] → result ≡ Ok 0
         → NamesFormula (IsNeverFormula (Some text)) (S.place system.now formula.now)

@@ -12,7 +12,7 @@ use crate::about::ABOUT;
 use crate::files::open;
 use crate::options::{Files, files_of};
 use circuit_check::{Reach, exit_status, run_reached};
-use command::{Call, System, misused, say_cause};
+use command::{Call, Refusal, System, misused, say_cause};
 use std::io::{Eprint, Write};
 
 /// Runs a call with a machine alone, and returns the exit status. An Err is that of a call that
@@ -22,7 +22,7 @@ pub(crate) fn run_of_reached<S: System, W: Write>(
     call: &Call<'_>,
     machine: &str,
     out: &mut W,
-) -> Result<u8, u8>
+) -> Result<u8, Refusal>
     ensures reached { (text : List ℕ) → S.file_bytes system.now machine.now ≡ Some text
         → result ≡ Ok 0 → IsReachedText text }
     ensures line { result ≡ Ok 0
@@ -46,7 +46,7 @@ fn prove_reached<S: System, W: Write>(
     machine: &str,
     stimulus: &str,
     out: &mut W,
-) -> Result<u8, u8>
+) -> Result<u8, Refusal>
     ensures reached { (text : List ℕ) → S.file_bytes system.now machine.now ≡ Some text
         → result ≡ Ok 0 → IsReachedText text }
     ensures line { result ≡ Ok 0

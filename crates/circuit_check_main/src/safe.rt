@@ -16,7 +16,7 @@ use crate::options::{Files, PartNames, files_of};
 use crate::parts::{create_outputs, name_outputs, write_outputs};
 use circuit_check::{PartProofs, ProofFormat, exit_status, run_safe};
 use command::{
-    Call, FAILED, OutputSystem, ReadFile, Source, System, WrittenFiles, misused, say_cause,
+    Call, OutputSystem, ReadFile, Refusal, Source, System, WrittenFiles, misused, say_cause,
 };
 use log::sink::Discard;
 use std::io::Write;
@@ -39,7 +39,7 @@ pub(crate) fn run_of_safe<S: OutputSystem, W: Write>(
     names: Machine<'_>,
     given: &mut S::Names,
     out: &mut W,
-) -> Result<u8, u8>
+) -> Result<u8, Refusal>
     ensures safe { (proof text : List ℕ)
         → value_given (choices_of call.now) (codes "--init-proof") ≡ Some proof
         → S.file_bytes system.now names.entry.machine.now ≡ Some text
@@ -75,7 +75,7 @@ fn prove_safe<S: System, W: Write>(
     names: Machine<'_>,
     proofs: PartNames<'_>,
     out: &mut W,
-) -> Result<u8, u8>
+) -> Result<u8, Refusal>
     ensures safe { (text : List ℕ) → S.file_bytes system.now names.entry.machine.now ≡ Some text
         → result ≡ Ok 0 → IsSafeText text }
     ensures line { result ≡ Ok 0
@@ -102,7 +102,7 @@ fn prove_safe<S: System, W: Write>(
 fn open_proofs<S: System>(
     system: &S,
     proofs: PartNames<'_>,
-) -> Result<PartProofs<Source<S::File, S::Input>>, u8> {
+) -> Result<PartProofs<Source<S::File, S::Input>>, Refusal> {
     let initial = open(system, proofs.initial)?;
     let step = open(system, proofs.step)?;
     let bad = open(system, proofs.bad)?;
@@ -121,7 +121,7 @@ fn formulas_of_safe<S: OutputSystem>(
     names: Machine<'_>,
     formulas: PartNames<'_>,
     given: &mut S::Names,
-) -> Result<u8, u8>
+) -> Result<u8, Refusal>
     ensures named { (text invariant_text : List ℕ)
         → S.file_bytes system.now names.entry.machine.now ≡ Some text
         → S.file_bytes system.now names.entry.invariant.now ≡ Some invariant_text
@@ -145,6 +145,6 @@ fn formulas_of_safe<S: OutputSystem>(
     say_cause(system, &named);
     match named {
         Ok(()) => Ok(0),
-        Err(_) => Ok(FAILED),
+        Err(_) => Ok(1),
     }
 }

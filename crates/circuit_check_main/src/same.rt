@@ -17,7 +17,7 @@ use crate::formulas::{create_formula, name_formula};
 use crate::names::{NameRule, read_named};
 use crate::options::{Files, ONE_FILE, files_of};
 use circuit_check::{ProofFormat, exit_status, run_different, run_same, write_same};
-use command::{Call, OutputSystem, ReadFile, System, WrittenFiles, misused, say_cause};
+use command::{Call, OutputSystem, ReadFile, Refusal, System, WrittenFiles, misused, say_cause};
 use log::sink::Discard;
 use std::io::Write;
 
@@ -37,7 +37,7 @@ pub(crate) fn run_of_same<S: OutputSystem, W: Write>(
     pair: Pair<'_>,
     given: &mut S::Names,
     out: &mut W,
-) -> Result<u8, u8>
+) -> Result<u8, Refusal>
     ensures same { (proof text other_text : List ℕ)
         → value_given (choices_of call.now) (codes "--proof") ≡ Some proof
         → S.file_bytes system.now pair.entry.circuit.now ≡ Some text
@@ -86,7 +86,7 @@ fn prove_same<S: System, W: Write>(
     pair: Pair<'_>,
     proof: &str,
     out: &mut W,
-) -> Result<u8, u8>
+) -> Result<u8, Refusal>
     ensures same { (text other_text : List ℕ)
         → S.file_bytes system.now pair.entry.circuit.now ≡ Some text
         → S.file_bytes system.now pair.entry.other.now ≡ Some other_text
@@ -117,7 +117,7 @@ fn answer_same<S: System, W: Write>(
     pair: Pair<'_>,
     answer: &str,
     out: &mut W,
-) -> Result<u8, u8>
+) -> Result<u8, Refusal>
     ensures different { (text other_text : List ℕ)
         → S.file_bytes system.now pair.entry.circuit.now ≡ Some text
         → S.file_bytes system.now pair.entry.other.now ≡ Some other_text
@@ -140,7 +140,7 @@ fn answer_same<S: System, W: Write>(
 
 /// Opens two circuits, and reads their texts as [`read_named`] does. An Err is that of a file that
 /// can't be opened, or as of [`read_named`].
-fn read_pair<S: System>(system: &S, pair: Pair<'_>) -> Result<(Vec<u8>, Vec<u8>), u8>
+fn read_pair<S: System>(system: &S, pair: Pair<'_>) -> Result<(Vec<u8>, Vec<u8>), Refusal>
     ensures first { IfOk result (λ texts. IfSome
         (S.file_bytes system.now pair.entry.circuit.now) (λ bytes. texts.0.items ≡ bytes)) }
     ensures second { IfOk result (λ texts. IfSome
@@ -158,7 +158,7 @@ fn formula_of_same<S: OutputSystem>(
     pair: Pair<'_>,
     formula: &str,
     given: &mut S::Names,
-) -> Result<u8, u8>
+) -> Result<u8, Refusal>
     ensures named { (text other_text : List ℕ)
         → S.file_bytes system.now pair.entry.circuit.now ≡ Some text
         → S.file_bytes system.now pair.entry.other.now ≡ Some other_text

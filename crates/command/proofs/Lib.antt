@@ -1,2 +1,3 @@
+mod Ending
 mod Giving
 mod Reading

@@ -12,6 +12,7 @@ mod held;
 mod host;
 mod host_files;
 mod kind;
+mod operands;
 mod outputs;
 mod places;
 mod refusals;
@@ -22,7 +23,7 @@ mod told;
 mod written;
 
 pub use about::{About, CNF, Entry};
-pub use begin::{IDS, ids_of, input_names, misused, run_program, unnamed};
+pub use begin::run_program;
 pub use call::{Call, Misuse, Setting, read_words};
 pub use cost::{Cost, JSON, STATS, StatsForm};
 pub use example::{EXAMPLE, EXAMPLE_FORMULA, EXAMPLE_LRAT};
@@ -31,12 +32,13 @@ pub use guilty::FaultLine;
 pub use held::HeldBytes;
 pub use host_files::HostNames;
 pub use kind::{Kind, kind_of};
+pub use operands::{IDS, ids_of, input_names, misused, unnamed};
 pub use outputs::{FileId, OutputSystem};
 pub use places::{
     FaultPlace, InputNames, hold_file, open_and_hold, say_cause, say_end, say_fault, say_missing,
 };
 pub use refusals::ReadFile;
-pub use status::{FAILED, NOT_RUN};
 pub use system::System;
 pub use told::{QUIET, RUST_LOG, VERBOSE, progress_of};
+pub use verdicts::Refusal;
 pub use written::WrittenFiles;

@@ -1,18 +1,19 @@
 //! Messages about the file in which a fault is.
-ghost use Rattle.std.specs.Prelude.{◌≡◌, ◌⊎◌, IfErr, IfOk, IfSome};
+ghost use Rattle.std.specs.Prelude.{◌≡◌, IfErr, IfOk, IfSome};
 ghost use Rattle.command.specs.Held.{held_in};
 ghost use Rattle.command.specs.Inputs.{IsOpenedBy, bytes_named, input_bytes_left};
+ghost use Rattle.verdicts.specs.declared.status.Refusal.TheVariants.{Failed};
 
 use crate::files::{InputOf, open_inputs, warn_of_header};
 use crate::guilty::FaultLine;
 use crate::held::HeldBytes;
 use crate::kind::{Kind, kind_of};
-use crate::status::{FAILED, NOT_RUN};
 use crate::system::System;
 use sat_formula::DimacsFault;
 use std::fmt::Display;
 use std::io;
 use std::io::{Eprint, ErrorKind, Read};
+use verdicts::Refusal;
 
 /// How many bytes of a file are read to detect its kind.
 const HEAD: usize = 16_384;
@@ -141,7 +142,7 @@ fn half_of_memory<S: System>(system: &S) -> u64 {
 ///
 /// # Errors
 ///
-/// The exit status 1 if it can't be read; standard error has the fault, the file, and for a file
+/// `Failed` if it can't be read; standard error has the fault, the file, and for a file
 /// that is too large which files may be larger.
 pub fn hold_file<S: System, D: Display + Drop, F: FnOnce(io::Error) -> D>(
     rt: &S,
@@ -149,9 +150,9 @@ pub fn hold_file<S: System, D: Display + Drop, F: FnOnce(io::Error) -> D>(
     file: InputOf<'_, S>,
     place: FaultPlace<'_>,
     fault_of: F,
-) -> Result<HeldBytes, u8>
+) -> Result<HeldBytes, Refusal>
     requires { F.IsAlwaysCallable fault_of }
-    ensures err { IfErr result (λ status. status ≡ FAILED) }
+    ensures err { IfErr result (λ refusal. refusal ≡ Failed) }
     ensures bytes { IfOk result (λ held. IfSome
         (input_bytes_left S.File.remaining S.Input.remaining file.entry) (λ bytes. held_in held ≡ bytes)) }
 {
@@ -163,7 +164,7 @@ pub fn hold_file<S: System, D: Display + Drop, F: FnOnce(io::Error) -> D>(
             if is_too_large {
                 let _ = eprintln!(rt; "{TOO_LARGE}");
             }
-            Err(FAILED)
+            Err(Refusal::Failed)
         }
     }
 }
@@ -172,14 +173,13 @@ pub fn hold_file<S: System, D: Display + Drop, F: FnOnce(io::Error) -> D>(
 ///
 /// # Errors
 ///
-/// The exit status if that fails; standard error has the reason.
+/// `NotRun` or `Failed` if that fails; standard error has the reason.
 pub fn open_and_hold<'a, S: System, D: Display + Drop, F: FnOnce(io::Error) -> D>(
     rt: &S,
     names: InputNames<'a>,
     fault_of: F,
-) -> Result<(HeldBytes, InputOf<'a, S>), u8>
+) -> Result<(HeldBytes, InputOf<'a, S>), Refusal>
     requires { F.IsAlwaysCallable fault_of }
-    ensures err { IfErr result (λ status. (status ≡ NOT_RUN) ⊎ (status ≡ FAILED)) }
     ensures formula { IfOk result (λ opened. IfSome
         (bytes_named (S.file_bytes rt.now) (S.input_bytes rt.now) names.entry.cnf.now)
         (λ bytes. held_in opened.0 ≡ bytes)) }
@@ -188,7 +188,7 @@ pub fn open_and_hold<'a, S: System, D: Display + Drop, F: FnOnce(io::Error) -> D
         input_bytes_left S.File.remaining S.Input.remaining opened.1
         ≡ bytes_named (S.file_bytes rt.now) (S.input_bytes rt.now) names.entry.other.now) }
 {
-    let (cnf, other) = open_inputs(rt, names.cnf, names.other).ok_or(NOT_RUN)?;
+    let (cnf, other) = open_inputs(rt, names.cnf, names.other).ok_or(Refusal::NotRun)?;
     let cnf = hold_file(rt, names, cnf, FaultPlace::Formula(None), fault_of)?;
     Ok((cnf, other))
 }

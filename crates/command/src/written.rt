@@ -3,13 +3,14 @@ ghost use Rattle.std.specs.Prelude.{◌≡◌, ◌∷◌, ◌++◌, [], true, �
 ghost use Rattle.std.specs.Io.Buffered.{writer_contents};
 ghost use Rattle.command.specs.Outputs.{Gives, begun, place_of, written_in};
 ghost use Rattle.command.specs.Written.{is_among, is_read, names_of};
+ghost use Rattle.verdicts.specs.declared.status.Refusal.TheVariants.{NotRun};
 
 use crate::files::refuse;
 use crate::outputs::{FileId, OutputSystem};
 use crate::refusals::{ReadFile, is_one_file, refusal_of};
-use crate::status::NOT_RUN;
 use std::io;
 use std::io::{BufWriter, ErrorKind};
+use verdicts::Refusal;
 
 /// What is appended, after a number, to the name of a file that is not whole.
 const UNFINISHED: &str = ".new";
@@ -94,13 +95,13 @@ impl<'a, S: OutputSystem> WrittenFiles<'a, S> {
     ///
     /// # Errors
     ///
-    /// The exit status 2 if it is not created; standard error has the reason.
+    /// `NotRun` if it is not created; standard error has the reason.
     pub fn create_wanted(
         &mut self,
         name: Option<&'a str>,
         inputs: &[ReadFile<'_>],
-    ) -> Result<Option<BufWriter<S::Output>>, u8>
-        ensures err { IfErr result (λ status. status ≡ NOT_RUN) }
+    ) -> Result<Option<BufWriter<S::Output>>, Refusal>
+        ensures err { IfErr result (λ refusal. refusal ≡ NotRun) }
         ensures same { IfSome name.entry (λ name. is_among name.now self.old ≡ true
             → IsErr result) }
         ensures dash { IfSome name.entry (λ name. name.now ≡ codes "-" → IsErr result) }
@@ -120,12 +121,12 @@ impl<'a, S: OutputSystem> WrittenFiles<'a, S> {
         let Some(name) = name else {
             return Ok(None);
         };
-        let file = self.create(name, inputs).ok_or(NOT_RUN)?;
+        let file = self.create(name, inputs).ok_or(Refusal::NotRun)?;
         match BufWriter::new(self.system.alloc(), file) {
             Ok(writer) => Ok(Some(writer)),
             Err(fault) => {
                 let _ = eprintln!(self.system; "{fault}");
-                Err(NOT_RUN)
+                Err(Refusal::NotRun)
             }
         }
     }

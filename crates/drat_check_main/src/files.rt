@@ -16,7 +16,7 @@ use crate::fault::{say_outcome, say_wanted_stats, unread_formula};
 use crate::outputs::{Finished, create_outputs};
 use crate::shown::{as_piece, show};
 use command::{
-    Call, Cost, FaultPlace, InputNames, NOT_RUN, OutputSystem, ReadFile, WrittenFiles, open_inputs,
+    Call, Cost, FaultPlace, InputNames, OutputSystem, ReadFile, Refusal, WrittenFiles, open_inputs,
     progress_of, warn_of_header,
 };
 use drat_check::{ProofFormat, exit_status, run_check};
@@ -35,7 +35,7 @@ pub(crate) fn check_files<'a, S: OutputSystem, W: Write>(
     call: &'a Call<'_>,
     given: &mut S::Names,
     out: &mut W,
-) -> Result<u8, u8>
+) -> Result<u8, Refusal>
     ensures refutes { (text : List ℕ)
         → bytes_named (S.file_bytes system.now) (S.input_bytes system.now) names.entry.cnf.now ≡ Some text
         → result ≡ Ok 0 → IsRefuted text }
@@ -62,7 +62,7 @@ pub(crate) fn check_files<'a, S: OutputSystem, W: Write>(
         → NamesSome (S.place system.now) (choices_of call.now) (S.renamed given.old) (S.renamed given.new) }
 {
     let cost = Cost::from_now(system);
-    let (cnf, proof) = open_inputs(system, names.cnf, names.other).ok_or(NOT_RUN)?;
+    let (cnf, proof) = open_inputs(system, names.cnf, names.other).ok_or(Refusal::NotRun)?;
     let mut files = WrittenFiles::new(system);
     let inputs = [ReadFile::of(system, &cnf), ReadFile::of(system, &proof)];
     let mut outputs = create_outputs(&mut files, call, &inputs)?;

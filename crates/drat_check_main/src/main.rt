@@ -38,7 +38,7 @@ use crate::about::ABOUT;
 use crate::example::check_example;
 use crate::files::check_files;
 use crate::piece::check_piece;
-use command::{Call, HostNames, OutputSystem, input_names, misused, run_program};
+use command::{Call, HostNames, OutputSystem, Refusal, input_names, misused, run_program};
 use drat_check::ProofFormat;
 use std::io;
 use std::io::Write;
@@ -57,7 +57,7 @@ fn run<S: OutputSystem, W: Write>(
     call: &Call<'_>,
     given: &mut S::Names,
     out: &mut W,
-) -> Result<u8, u8>
+) -> Result<u8, Refusal>
     ensures refutes { (cnf proof text : List ℕ)
         → operands_of call.now ≡ cnf ∷ proof ∷ []
         → is_given (choices_of call.now) (codes "--example") ≡ false
@@ -139,7 +139,7 @@ fn run<S: OutputSystem, W: Write>(
 /// # Errors
 ///
 /// The exit status 2 if options exclude each other.
-fn format_of<S: OutputSystem>(system: &S, call: &Call<'_>) -> Result<ProofFormat, u8>
+fn format_of<S: OutputSystem>(system: &S, call: &Call<'_>) -> Result<ProofFormat, Refusal>
     ensures trim { IfOk result (λ format. is_given (choices_of call.now) (codes "--holds") ≡ true
         → is_given (choices_of call.now) (codes "--trim") ≡ false) }
 {

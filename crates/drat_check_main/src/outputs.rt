@@ -8,7 +8,7 @@ ghost use Rattle.drat_check.specs.Outputs.{bytes_in};
 ghost use Rattle.drat_check_main.specs.Named.{GivesAll, GivesFirst, core_name, form_asked, lrat_name, trim_name};
 ghost use Rattle.verdicts.specs.Verdicts.{shown_line};
 
-use command::{Call, OutputSystem, ReadFile, WrittenFiles};
+use command::{Call, OutputSystem, ReadFile, Refusal, WrittenFiles};
 use drat_check::{LineForm, Outputs};
 use std::cell::Cell;
 use std::io;
@@ -26,7 +26,7 @@ pub(crate) fn create_outputs<'a, S: OutputSystem>(
     files: &mut WrittenFiles<'a, S>,
     call: &'a Call<'_>,
     inputs: &[ReadFile<'_>],
-) -> Result<FileOutputs<S>, u8>
+) -> Result<FileOutputs<S>, Refusal>
     ensures form { IfOk result (λ outputs. outputs.form ≡ form_asked (choices_of call.now)) }
     ensures lrat { S.unwritten files.old.system.now ≡ Some [] → IfOk result (λ outputs.
         bytes_in (writer_contents S.Output.contents) outputs.lrat ≡ begun (lrat_name (choices_of call.now))) }

@@ -10,7 +10,7 @@ use crate::fault::{say_outcome, say_wanted_stats, unread_formula, unread_wanted}
 use crate::outputs::{Finished, create_outputs};
 use crate::shown::show;
 use command::{
-    Call, Cost, FaultPlace, InputNames, NOT_RUN, OutputSystem, ReadFile, WrittenFiles, open_file,
+    Call, Cost, FaultPlace, InputNames, OutputSystem, ReadFile, Refusal, WrittenFiles, open_file,
     open_inputs, progress_of, say_missing, warn_of_header,
 };
 use drat_check::{PieceOutputs, ProofFormat, exit_status, run_piece};
@@ -29,7 +29,7 @@ pub(crate) fn check_piece<'a, S: OutputSystem, W: Write>(
     call: &'a Call<'_>,
     given: &mut S::Names,
     out: &mut W,
-) -> Result<u8, u8>
+) -> Result<u8, Refusal>
     ensures shows { (text wanted : List ℕ)
         → bytes_named (S.file_bytes system.now) (S.input_bytes system.now) names.entry.cnf.now ≡ Some text
         → S.file_bytes system.now holds_name.now ≡ Some wanted
@@ -56,8 +56,8 @@ pub(crate) fn check_piece<'a, S: OutputSystem, W: Write>(
         → NamesSome (S.place system.now) (choices_of call.now) (S.renamed given.old) (S.renamed given.new) }
 {
     let cost = Cost::from_now(system);
-    let (cnf, piece) = open_inputs(system, names.cnf, names.other).ok_or(NOT_RUN)?;
-    let holds = open_file(system, holds_name).ok_or(NOT_RUN)?;
+    let (cnf, piece) = open_inputs(system, names.cnf, names.other).ok_or(Refusal::NotRun)?;
+    let holds = open_file(system, holds_name).ok_or(Refusal::NotRun)?;
     let mut files = WrittenFiles::new(system);
     let inputs = [
         ReadFile::of(system, &cnf),

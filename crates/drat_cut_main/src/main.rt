@@ -19,8 +19,7 @@ use crate::fault::CutFailure;
 use crate::files::PieceFiles;
 use crate::piece::Limits;
 use command::{
-    Call, FAILED, InputNames, NOT_RUN, misused, open_inputs, progress_of, run_program, say_fault,
-    unnamed,
+    Call, InputNames, Refusal, misused, open_inputs, progress_of, run_program, say_fault, unnamed,
 };
 use drat_cut::Additions;
 use std::process::ExitCode;
@@ -29,7 +28,7 @@ fn main(rt: HostRuntime) -> ExitCode {
     run_program(&rt, &ABOUT, |call| run(&rt, call))
 }
 
-fn run(rt: &HostRuntime, call: &Call<'_>) -> Result<u8, u8> {
+fn run(rt: &HostRuntime, call: &Call<'_>) -> Result<u8, Refusal> {
     let Some(limits) = Limits::of_call(call) else {
         return Err(misused(rt, &ABOUT, "--lemmas and --live take a number from 1 on"));
     };
@@ -49,8 +48,8 @@ fn cut_files(
     prefix: &str,
     limits: Limits,
     call: &Call<'_>,
-) -> Result<u8, u8> {
-    let (cnf, proof) = open_inputs(rt, names.cnf, names.other).ok_or(NOT_RUN)?;
+) -> Result<u8, Refusal> {
+    let (cnf, proof) = open_inputs(rt, names.cnf, names.other).ok_or(Refusal::NotRun)?;
     let additions = if call.has("--drat") {
         Additions::Drat
     } else {
@@ -62,10 +61,10 @@ fn cut_files(
     match cut(told, rt.alloc(), cnf.file, proof, additions, limits, &files) {
         Ok(true) => Ok(0),
         Ok(false) => Ok(3),
-        Err(CutFailure::Unopened) => Err(NOT_RUN),
+        Err(CutFailure::Unopened) => Err(Refusal::NotRun),
         Err(fault) => {
             say_fault(rt, names, &fault, fault.place());
-            Err(FAILED)
+            Err(Refusal::Failed)
         }
     }
 }

@@ -8,9 +8,10 @@ use Rattle.follows_check.specs.Texts.{WritesQuestion}
 use Rattle.follows_check.specs.Verdicts.{shown_line}
 use Rattle.follows_check.specs.declared.verdict.Verdict.TheVariants.{Follows, NotFollows}
 use Rattle.std.specs.Prelude.{Some, []}
+use Rattle.verdicts.specs.declared.status.Refusal.{Refusal}
 
 -- of a status that says that claims follow, or that one does not
-pub record ShowsLine (r : Result ℕ ℕ) (old new : Option (List ℕ)) : Type 0 where
+pub record ShowsLine (r : Result ℕ Refusal) (old new : Option (List ℕ)) : Type 0 where
   pub follows : r ≡ Ok 20 → Appends old new (shown_line Follows)
   pub fails : r ≡ Ok 10 → Appends old new (shown_line (NotFollows 0 0))
 

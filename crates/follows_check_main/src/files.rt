@@ -9,7 +9,7 @@ ghost use Rattle.follows_check_main.specs.Shown.{ShowsLine};
 use crate::about::ABOUT;
 use crate::fault::{place_of, say_verdict, unread_answer, unread_claims, unread_formula};
 use command::{
-    Call, FaultPlace, HeldBytes, InputNames, InputOf, NOT_RUN, System, hold_file, open_file,
+    Call, FaultPlace, HeldBytes, InputNames, InputOf, Refusal, System, hold_file, open_file,
     open_inputs, progress_of, say_fault, warn_of_header,
 };
 use follows_check::{
@@ -45,7 +45,7 @@ pub(crate) fn check_proof<S: System, W: Write>(
     format: ProofFormat,
     call: &Call<'_>,
     out: &mut W,
-) -> Result<u8, u8>
+) -> Result<u8, Refusal>
     ensures follows { (text said : List ℕ)
         → bytes_named (S.file_bytes system.now) (S.input_bytes system.now) names.entry.inputs.cnf.now ≡ Some text
         → S.file_bytes system.now names.entry.claims.now ≡ Some said
@@ -54,8 +54,10 @@ pub(crate) fn check_proof<S: System, W: Write>(
     ensures unwritten { result ≡ Ok 0 → ⊥ }
     ensures line { ShowsLine result (W.contents out.old) (W.contents out.new) }
 {
-    let (cnf, proof) = open_inputs(system, names.inputs.cnf, names.inputs.other).ok_or(NOT_RUN)?;
-    let claims = open_file(system, names.claims).ok_or(NOT_RUN)?;
+    let (cnf, proof) = open_inputs(system, names.inputs.cnf, names.inputs.other).ok_or(
+        Refusal::NotRun,
+    )?;
+    let claims = open_file(system, names.claims).ok_or(Refusal::NotRun)?;
     let (cnf, claims) = hold_question(system, names, cnf, claims)?;
     let progress = &progress_of(system, &ABOUT, call);
     let proof = proof.told(system, progress);
@@ -78,7 +80,7 @@ pub(crate) fn check_answer<S: System, W: Write>(
     system: &S,
     names: Names<'_>,
     out: &mut W,
-) -> Result<u8, u8>
+) -> Result<u8, Refusal>
     ensures fails { (text said : List ℕ)
         → bytes_named (S.file_bytes system.now) (S.input_bytes system.now) names.entry.inputs.cnf.now ≡ Some text
         → S.file_bytes system.now names.entry.claims.now ≡ Some said
@@ -87,8 +89,10 @@ pub(crate) fn check_answer<S: System, W: Write>(
     ensures unwritten { result ≡ Ok 0 → ⊥ }
     ensures line { ShowsLine result (W.contents out.old) (W.contents out.new) }
 {
-    let (cnf, answer) = open_inputs(system, names.inputs.cnf, names.inputs.other).ok_or(NOT_RUN)?;
-    let claims = open_file(system, names.claims).ok_or(NOT_RUN)?;
+    let (cnf, answer) = open_inputs(system, names.inputs.cnf, names.inputs.other).ok_or(
+        Refusal::NotRun,
+    )?;
+    let claims = open_file(system, names.claims).ok_or(Refusal::NotRun)?;
     let answer = hold_file(
         system,
         names.inputs,
@@ -108,7 +112,7 @@ pub(crate) fn hold_question<S: System>(
     names: Names<'_>,
     cnf: InputOf<'_, S>,
     claims: InputOf<'_, S>,
-) -> Result<(HeldBytes, HeldBytes), u8>
+) -> Result<(HeldBytes, HeldBytes), Refusal>
     ensures formula { IfOk result (λ held. IfSome
         (input_bytes_left S.File.remaining S.Input.remaining cnf.entry) (λ bytes. held_in held.0 ≡ bytes)) }
     ensures claims { IfOk result (λ held. IfSome

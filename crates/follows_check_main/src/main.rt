@@ -26,7 +26,7 @@ use crate::about::ABOUT;
 use crate::example::check_example;
 use crate::files::{Names, check_answer, check_proof};
 use crate::question::write_formula;
-use command::{Call, HostNames, OutputSystem, misused, run_program, unnamed};
+use command::{Call, HostNames, OutputSystem, Refusal, misused, run_program, unnamed};
 use follows_check::ProofFormat;
 use std::io;
 use std::io::Write;
@@ -44,7 +44,7 @@ fn run<S: OutputSystem, W: Write>(
     call: &Call<'_>,
     given: &mut S::Names,
     out: &mut W,
-) -> Result<u8, u8>
+) -> Result<u8, Refusal>
     ensures follows { (cnf claims proof text said : List ℕ)
         → operands_of call.now ≡ cnf ∷ claims ∷ proof ∷ []
         → is_given (choices_of call.now) (codes "--example") ≡ false
@@ -84,7 +84,7 @@ fn run<S: OutputSystem, W: Write>(
 /// # Errors
 ///
 /// The exit status 2 if options exclude each other.
-fn format_of<S: OutputSystem>(system: &S, call: &Call<'_>) -> Result<ProofFormat, u8> {
+fn format_of<S: OutputSystem>(system: &S, call: &Call<'_>) -> Result<ProofFormat, Refusal> {
     let format = match (call.has("--drat"), call.has("--frat"), call.has("--lpr")) {
         (false, false, false) => ProofFormat::Told,
         (true, false, false) => ProofFormat::Drat,
@@ -109,7 +109,7 @@ fn ask<S: OutputSystem>(
     format: ProofFormat,
     file: &str,
     given: &mut S::Names,
-) -> Result<u8, u8>
+) -> Result<u8, Refusal>
     ensures named { (cnf claims text said : List ℕ)
         → operands_of call.now ≡ cnf ∷ claims ∷ []
         → bytes_named (S.file_bytes system.now) (S.input_bytes system.now) cnf ≡ Some text
@@ -139,7 +139,7 @@ fn check<S: OutputSystem, W: Write>(
     call: &Call<'_>,
     format: ProofFormat,
     out: &mut W,
-) -> Result<u8, u8>
+) -> Result<u8, Refusal>
     ensures follows { (cnf claims proof text said : List ℕ)
         → operands_of call.now ≡ cnf ∷ claims ∷ proof ∷ []
         → bytes_named (S.file_bytes system.now) (S.input_bytes system.now) cnf ≡ Some text

@@ -7,9 +7,7 @@ ghost use Rattle.follows_check_main.specs.Shown.{NamesQuestion};
 
 use crate::fault::place_of;
 use crate::files::{Names, hold_question, warn_of_headers};
-use command::{
-    FAILED, NOT_RUN, OutputSystem, ReadFile, WrittenFiles, open_inputs, say_cause, say_fault,
-};
+use command::{OutputSystem, ReadFile, Refusal, WrittenFiles, open_inputs, say_cause, say_fault};
 use follows_check::{HeaderLies, ProofFormat, RunFault, write_question};
 use std::io::BufWriter;
 
@@ -20,7 +18,7 @@ pub(crate) fn write_formula<S: OutputSystem>(
     names: Names<'_>,
     file: &str,
     given: &mut S::Names,
-) -> Result<u8, u8>
+) -> Result<u8, Refusal>
     ensures named { (text said : List ℕ)
         → bytes_named (S.file_bytes system.now) (S.input_bytes system.now) names.entry.inputs.cnf.now ≡ Some text
         → bytes_named (S.file_bytes system.now) (S.input_bytes system.now) names.entry.claims.now ≡ Some said
@@ -30,11 +28,11 @@ pub(crate) fn write_formula<S: OutputSystem>(
     ensures zero { IfOk result (λ status. status ≡ 0) }
     ensures unnamed { IfErr result (λ status. S.renamed given.new ≡ S.renamed given.old) }
 {
-    let (cnf, claims) = open_inputs(system, names.inputs.cnf, names.claims).ok_or(NOT_RUN)?;
+    let (cnf, claims) = open_inputs(system, names.inputs.cnf, names.claims).ok_or(Refusal::NotRun)?;
     let mut files = WrittenFiles::new(system);
     let inputs = [ReadFile::of(system, &cnf), ReadFile::of(system, &claims)];
     let made = files.create_wanted(Some(file), &inputs)?;
-    let mut out = made.ok_or(NOT_RUN)?;
+    let mut out = made.ok_or(Refusal::NotRun)?;
     let (cnf, claims) = hold_question(system, names, cnf, claims)?;
     let mut lies = HeaderLies::none();
     let written = write_question(system.alloc(), cnf, claims, &mut out, &mut lies);
@@ -44,12 +42,12 @@ pub(crate) fn write_formula<S: OutputSystem>(
     }
     warn_of_headers(system, names, lies);
     if written.is_err() {
-        return Err(FAILED);
+        return Err(Refusal::Failed);
     }
     let named = files.name_buffered(given, file, out);
     say_cause(system, &named);
     match named {
         Ok(()) => Ok(0),
-        Err(_) => Err(FAILED),
+        Err(_) => Err(Refusal::Failed),
     }
 }

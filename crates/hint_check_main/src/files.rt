@@ -8,7 +8,9 @@ ghost use Rattle.verdicts.specs.Verdicts.{shown_line};
 ghost use Rattle.verdicts.specs.declared.verdict.Verdict.TheVariants.{Verified};
 
 use crate::about::ABOUT;
-use command::{Call, FaultPlace, System, ids_of, input_names, open_and_hold, progress_of, say_end};
+use command::{
+    Call, FaultPlace, Refusal, System, ids_of, input_names, open_and_hold, progress_of, say_end,
+};
 use hint_check::{Ids, RunFault, Verdict, exit_status, run_check};
 use sat_formula::DimacsFault;
 use std::io;
@@ -20,7 +22,7 @@ pub(crate) fn check_files<S: System, W: Write>(
     system: &S,
     call: &Call<'_>,
     out: &mut W,
-) -> Result<u8, u8>
+) -> Result<u8, Refusal>
     ensures refutes { (cnf lines text : List ℕ)
         → operands_of call.now ≡ cnf ∷ lines ∷ []
         → bytes_named (S.file_bytes system.now) (S.input_bytes system.now) cnf ≡ Some text

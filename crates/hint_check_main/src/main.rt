@@ -17,7 +17,7 @@ mod files;
 
 use crate::about::ABOUT;
 use crate::files::check_files;
-use command::{Call, EXAMPLE_FORMULA, EXAMPLE_LRAT, System, run_program, say_cause};
+use command::{Call, EXAMPLE_FORMULA, EXAMPLE_LRAT, Refusal, System, run_program, say_cause};
 use hint_check::{exit_status, run_check};
 use std::io;
 use std::io::Write;
@@ -28,7 +28,7 @@ fn main(rt: HostRuntime) -> ExitCode {
 }
 
 /// Runs a call in a system, with `out` as its standard output.
-fn run<S: System, W: Write>(system: &S, call: &Call<'_>, out: &mut W) -> Result<u8, u8>
+fn run<S: System, W: Write>(system: &S, call: &Call<'_>, out: &mut W) -> Result<u8, Refusal>
     ensures refutes { (cnf lines text : List ℕ)
         → operands_of call.now ≡ cnf ∷ lines ∷ []
         → is_given (choices_of call.now) (codes "--example") ≡ false

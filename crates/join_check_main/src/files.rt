@@ -7,7 +7,7 @@ ghost use Rattle.join_check.specs.Verdicts.{shown_line};
 ghost use Rattle.join_check.specs.declared.verdict.Verdict.TheVariants.{Verified};
 
 use command::{
-    FaultPlace, InputNames, NOT_RUN, System, hold_file, open_file, open_inputs, say_fault,
+    FaultPlace, InputNames, Refusal, System, hold_file, open_file, open_inputs, say_fault,
 };
 use join_check::{RunFault, Verdict, exit_status, run_cubes, run_pieces};
 use receipts::ReceiptFault;
@@ -21,7 +21,7 @@ pub(crate) fn check_formula<S: System, W: Write>(
     system: &S,
     names: InputNames<'_>,
     out: &mut W,
-) -> Result<u8, u8>
+) -> Result<u8, Refusal>
     ensures refutes { (text said : List ℕ)
         → bytes_named (S.file_bytes system.now) (S.input_bytes system.now) names.entry.cnf.now ≡ Some text
         → bytes_named (S.file_bytes system.now) (S.input_bytes system.now) names.entry.other.now ≡ Some said
@@ -29,7 +29,7 @@ pub(crate) fn check_formula<S: System, W: Write>(
     ensures line { result ≡ Ok 0 → (count : ℕ)
         × Appends (W.contents out.old) (W.contents out.new) (shown_line (Verified count)) }
 {
-    let (cnf, receipts) = open_inputs(system, names.cnf, names.other).ok_or(NOT_RUN)?;
+    let (cnf, receipts) = open_inputs(system, names.cnf, names.other).ok_or(Refusal::NotRun)?;
     let receipts = hold_file(system, names, receipts, FaultPlace::Answer, unread_receipts)?;
     let unread = FaultPlace::Formula(None);
     let cnf = hold_file(system, names, cnf, unread, unread_formula)?;
@@ -45,7 +45,7 @@ pub(crate) fn check_parts<S: System, W: Write>(
     names: InputNames<'_>,
     cubes_name: &str,
     out: &mut W,
-) -> Result<u8, u8>
+) -> Result<u8, Refusal>
     ensures refutes { (text split said : List ℕ)
         → bytes_named (S.file_bytes system.now) (S.input_bytes system.now) names.entry.cnf.now ≡ Some text
         → S.file_bytes system.now cubes_name.now ≡ Some split
@@ -54,8 +54,8 @@ pub(crate) fn check_parts<S: System, W: Write>(
     ensures line { result ≡ Ok 0 → (count : ℕ)
         × Appends (W.contents out.old) (W.contents out.new) (shown_line (Verified count)) }
 {
-    let (cnf, receipts) = open_inputs(system, names.cnf, names.other).ok_or(NOT_RUN)?;
-    let cubes = open_file(system, cubes_name).ok_or(NOT_RUN)?;
+    let (cnf, receipts) = open_inputs(system, names.cnf, names.other).ok_or(Refusal::NotRun)?;
+    let cubes = open_file(system, cubes_name).ok_or(Refusal::NotRun)?;
     let receipts = hold_file(system, names, receipts, FaultPlace::Answer, unread_receipts)?;
     let unread = FaultPlace::Formula(None);
     let cnf = hold_file(system, names, cnf, unread, unread_formula)?;

@@ -18,7 +18,7 @@ mod files;
 
 use crate::about::ABOUT;
 use crate::files::{check_formula, check_parts};
-use command::{Call, EXAMPLE_FORMULA, System, input_names, run_program, say_cause};
+use command::{Call, EXAMPLE_FORMULA, Refusal, System, input_names, run_program, say_cause};
 use join_check::{exit_status, run_pieces};
 use std::io;
 use std::io::Write;
@@ -33,7 +33,7 @@ fn main(rt: HostRuntime) -> ExitCode {
 }
 
 /// Runs a call in a system, with `out` as its standard output.
-fn run<S: System, W: Write>(system: &S, call: &Call<'_>, out: &mut W) -> Result<u8, u8>
+fn run<S: System, W: Write>(system: &S, call: &Call<'_>, out: &mut W) -> Result<u8, Refusal>
     ensures refutes { (cnf receipts text said : List ℕ)
         → operands_of call.now ≡ cnf ∷ receipts ∷ []
         → is_given (choices_of call.now) (codes "--example") ≡ false

@@ -10,7 +10,7 @@ ghost use Rattle.verdicts.specs.declared.verdict.Verdict.TheVariants.{NotVerifie
 
 use crate::about::ABOUT;
 use command::{
-    Call, Cost, FaultPlace, InputNames, NOT_RUN, OutputSystem, ReadFile, StatsForm, WrittenFiles,
+    Call, Cost, FaultPlace, InputNames, OutputSystem, ReadFile, Refusal, StatsForm, WrittenFiles,
     open_inputs, progress_of, say_fault, warn_of_header,
 };
 use lrat_check::{Ids, RunFault, Verdict, exit_status, run_check};
@@ -29,7 +29,7 @@ pub(crate) fn check_files<S: OutputSystem, W: Write>(
     call: &Call<'_>,
     given: &mut S::Names,
     out: &mut W,
-) -> Result<u8, u8>
+) -> Result<u8, Refusal>
     ensures refutes { (text : List ℕ)
         → bytes_named (S.file_bytes system.now) (S.input_bytes system.now) names.entry.cnf.now ≡ Some text
         → result ≡ Ok 0 → IsRefuted text }
@@ -50,7 +50,7 @@ pub(crate) fn check_files<S: OutputSystem, W: Write>(
         (W.contents out.old) (W.contents out.new) (S.renamed given.old) (S.renamed given.new) }
 {
     let cost = Cost::from_now(system);
-    let (cnf, proof) = open_inputs(system, names.cnf, names.other).ok_or(NOT_RUN)?;
+    let (cnf, proof) = open_inputs(system, names.cnf, names.other).ok_or(Refusal::NotRun)?;
     let mut files = WrittenFiles::new(system);
     let inputs = [ReadFile::of(system, &cnf), ReadFile::of(system, &proof)];
     let receipt = files.create_wanted(call.value("--receipt"), &inputs)?;

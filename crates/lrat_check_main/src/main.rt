@@ -25,8 +25,8 @@ use crate::about::ABOUT;
 use crate::files::check_files;
 use crate::piece::check_piece;
 use command::{
-    Call, EXAMPLE_FORMULA, EXAMPLE_LRAT, HostNames, OutputSystem, System, ids_of, input_names,
-    run_program, say_cause,
+    Call, EXAMPLE_FORMULA, EXAMPLE_LRAT, HostNames, OutputSystem, Refusal, System, ids_of,
+    input_names, run_program, say_cause,
 };
 use lrat_check::{Ids, exit_status, run_check};
 use std::io;
@@ -45,7 +45,7 @@ fn run<S: OutputSystem, W: Write>(
     call: &Call<'_>,
     given: &mut S::Names,
     out: &mut W,
-) -> Result<u8, u8>
+) -> Result<u8, Refusal>
     ensures refutes { (cnf proof text : List ℕ)
         → operands_of call.now ≡ cnf ∷ proof ∷ []
         → is_given (choices_of call.now) (codes "--example") ≡ false

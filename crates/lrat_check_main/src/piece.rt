@@ -8,7 +8,7 @@ ghost use Rattle.verdicts.specs.Pieces.{piece_line};
 use crate::about::ABOUT;
 use crate::files::{place_of, unread_formula};
 use command::{
-    Call, Cost, FaultPlace, InputNames, NOT_RUN, OutputSystem, ReadFile, StatsForm, WrittenFiles,
+    Call, Cost, FaultPlace, InputNames, OutputSystem, ReadFile, Refusal, StatsForm, WrittenFiles,
     open_file, open_inputs, progress_of, say_fault, say_missing, warn_of_header,
 };
 use lrat_check::{Ids, PieceFault, PieceTold, PieceVerdict, RunFault, exit_status, run_piece};
@@ -28,7 +28,7 @@ pub(crate) fn check_piece<'a, S: OutputSystem, W: Write>(
     call: &'a Call<'_>,
     given: &mut S::Names,
     out: &mut W,
-) -> Result<u8, u8>
+) -> Result<u8, Refusal>
     ensures shows { (text wanted : List ℕ)
         → bytes_named (S.file_bytes system.now) (S.input_bytes system.now) names.entry.cnf.now ≡ Some text
         → S.file_bytes system.now holds_name.now ≡ Some wanted
@@ -49,8 +49,8 @@ pub(crate) fn check_piece<'a, S: OutputSystem, W: Write>(
         (W.contents out.old) (W.contents out.new) (S.renamed given.old) (S.renamed given.new) }
 {
     let cost = Cost::from_now(system);
-    let (cnf, piece) = open_inputs(system, names.cnf, names.other).ok_or(NOT_RUN)?;
-    let holds = open_file(system, holds_name).ok_or(NOT_RUN)?;
+    let (cnf, piece) = open_inputs(system, names.cnf, names.other).ok_or(Refusal::NotRun)?;
+    let holds = open_file(system, holds_name).ok_or(Refusal::NotRun)?;
     let mut files = WrittenFiles::new(system);
     let inputs = [
         ReadFile::of(system, &cnf),

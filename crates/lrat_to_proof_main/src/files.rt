@@ -10,8 +10,8 @@ ghost use Rattle.lrat_to_proof_main.specs.Named.{HasNamed};
 ghost use Rattle.verdicts.specs.Statuses.{status_of};
 
 use command::{
-    FAILED, FaultPlace, InputNames, NOT_RUN, OutputSystem, ReadFile, WrittenFiles, open_inputs,
-    say_fault, warn_of_header,
+    FaultPlace, InputNames, OutputSystem, ReadFile, Refusal, WrittenFiles, open_inputs, say_fault,
+    warn_of_header,
 };
 use lrat_to_proof::{Conversion, ConvertFault, HashWidth, Ids, convert, exit_status};
 use std::io::BufWriter;
@@ -31,7 +31,7 @@ pub(crate) fn convert_files<S: OutputSystem>(
     proof_name: &str,
     form: Form,
     given: &mut S::Names,
-) -> Result<u8, u8>
+) -> Result<u8, Refusal>
     ensures refuted { (text lines : List ℕ)
         → bytes_named (S.file_bytes system.now) (S.input_bytes system.now) names.entry.cnf.now ≡ Some text
         → bytes_named (S.file_bytes system.now) (S.input_bytes system.now) names.entry.other.now ≡ Some lines
@@ -47,11 +47,11 @@ pub(crate) fn convert_files<S: OutputSystem>(
     ensures rejected { result ≡ Ok 1 → S.renamed given.new ≡ S.renamed given.old }
     ensures unnamed { IfErr result (λ status. S.renamed given.new ≡ S.renamed given.old) }
 {
-    let (cnf, lrat) = open_inputs(system, names.cnf, names.other).ok_or(NOT_RUN)?;
+    let (cnf, lrat) = open_inputs(system, names.cnf, names.other).ok_or(Refusal::NotRun)?;
     let mut files = WrittenFiles::new(system);
     let inputs = [ReadFile::of(system, &cnf), ReadFile::of(system, &lrat)];
     let made = files.create_wanted(Some(proof_name), &inputs)?;
-    let mut out = made.ok_or(NOT_RUN)?;
+    let mut out = made.ok_or(Refusal::NotRun)?;
     let mut lie = None;
     let outcome = convert(
         system.alloc(),

@@ -16,7 +16,9 @@ mod files;
 
 use crate::about::ABOUT;
 use crate::files::{Form, convert_files};
-use command::{Call, HostNames, InputNames, OutputSystem, ids_of, misused, run_program, unnamed};
+use command::{
+    Call, HostNames, InputNames, OutputSystem, Refusal, ids_of, misused, run_program, unnamed,
+};
 use lrat_to_proof::{HashWidth, Ids};
 use std::process::ExitCode;
 
@@ -25,7 +27,7 @@ fn main(rt: HostRuntime) -> ExitCode {
 }
 
 /// Runs a call in a system.
-fn run<S: OutputSystem>(system: &S, call: &Call<'_>, given: &mut S::Names) -> Result<u8, u8>
+fn run<S: OutputSystem>(system: &S, call: &Call<'_>, given: &mut S::Names) -> Result<u8, Refusal>
     ensures refuted { (cnf lrat proof text lines : List ℕ)
         → operands_of call.now ≡ cnf ∷ lrat ∷ proof ∷ []
         → bytes_named (S.file_bytes system.now) (S.input_bytes system.now) cnf ≡ Some text

@@ -7,7 +7,7 @@ ghost use Rattle.follows_check.specs.declared.minimal.MinimalVerdict.TheVariants
 
 use crate::about::ABOUT;
 use command::{
-    Call, FaultPlace, InputNames, NOT_RUN, System, hold_file, open_file, open_inputs, progress_of,
+    Call, FaultPlace, InputNames, Refusal, System, hold_file, open_file, open_inputs, progress_of,
     say_fault, warn_of_header,
 };
 use follows_check::{CoreFault, MinimalVerdict, ProofFormat, run_minimal};
@@ -25,15 +25,15 @@ pub(crate) fn check_files<S: System, W: Write>(
     format: ProofFormat,
     call: &Call<'_>,
     out: &mut W,
-) -> Result<u8, u8>
+) -> Result<u8, Refusal>
     ensures minimal { (text : List ℕ)
         → bytes_named (S.file_bytes system.now) (S.input_bytes system.now) names.entry.cnf.now ≡ Some text
         → result ≡ Ok 0 → IsMinimalText text }
     ensures line { result ≡ Ok 0
         → Appends (W.contents out.old) (W.contents out.new) (minimal_line Minimal) }
 {
-    let (cnf, proof) = open_inputs(system, names.cnf, names.other).ok_or(NOT_RUN)?;
-    let models = open_file(system, models_name).ok_or(NOT_RUN)?;
+    let (cnf, proof) = open_inputs(system, names.cnf, names.other).ok_or(Refusal::NotRun)?;
+    let models = open_file(system, models_name).ok_or(Refusal::NotRun)?;
     let cnf = hold_file(
         system,
         names,

@@ -22,7 +22,7 @@ mod files;
 use crate::about::ABOUT;
 use crate::example::check_example;
 use crate::files::check_files;
-use command::{Call, InputNames, System, misused, run_program, unnamed};
+use command::{Call, InputNames, Refusal, System, misused, run_program, unnamed};
 use follows_check::ProofFormat;
 use std::io;
 use std::io::Write;
@@ -33,7 +33,7 @@ fn main(rt: HostRuntime) -> ExitCode {
 }
 
 /// Runs a call in a system, with `out` as its standard output.
-fn run<S: System, W: Write>(system: &S, call: &Call<'_>, out: &mut W) -> Result<u8, u8>
+fn run<S: System, W: Write>(system: &S, call: &Call<'_>, out: &mut W) -> Result<u8, Refusal>
     ensures minimal { (core proof models text : List ℕ)
         → operands_of call.now ≡ core ∷ proof ∷ models ∷ []
         → is_given (choices_of call.now) (codes "--example") ≡ false

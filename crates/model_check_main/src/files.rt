@@ -10,7 +10,7 @@ ghost use Rattle.receipt_files.specs.Named.{GivesReceipt, LeavesReceipt, satisfi
 
 use answer_text::AnswerFault;
 use command::{
-    Call, FaultPlace, InputNames, NOT_RUN, OutputSystem, ReadFile, WrittenFiles, hold_file,
+    Call, FaultPlace, InputNames, OutputSystem, ReadFile, Refusal, WrittenFiles, hold_file,
     open_inputs, say_fault, warn_of_header,
 };
 use model_check::{RunFault, Verdict, exit_status, run_check};
@@ -27,7 +27,7 @@ pub(crate) fn check_files<S: OutputSystem, W: Write>(
     call: &Call<'_>,
     given: &mut S::Names,
     out: &mut W,
-) -> Result<u8, u8>
+) -> Result<u8, Refusal>
     ensures satisfies { (text said : List ℕ)
         → bytes_named (S.file_bytes system.now) (S.input_bytes system.now) names.entry.cnf.now ≡ Some text
         → bytes_named (S.file_bytes system.now) (S.input_bytes system.now) names.entry.other.now ≡ Some said
@@ -49,7 +49,7 @@ pub(crate) fn check_files<S: OutputSystem, W: Write>(
         (shown_line Verified) (IsSatisfiedBy text said) (satisfied_of text)
         (W.contents out.old) (W.contents out.new) (S.renamed given.old) (S.renamed given.new) }
 {
-    let (cnf, answer) = open_inputs(system, names.cnf, names.other).ok_or(NOT_RUN)?;
+    let (cnf, answer) = open_inputs(system, names.cnf, names.other).ok_or(Refusal::NotRun)?;
     let mut files = WrittenFiles::new(system);
     let inputs = [ReadFile::of(system, &cnf), ReadFile::of(system, &answer)];
     let receipt = files.create_wanted(call.value("--receipt"), &inputs)?;

@@ -19,7 +19,9 @@ mod files;
 
 use crate::about::ABOUT;
 use crate::files::check_files;
-use command::{Call, HostNames, OutputSystem, System, input_names, run_program, say_cause};
+use command::{
+    Call, HostNames, OutputSystem, Refusal, System, input_names, run_program, say_cause,
+};
 use model_check::{exit_status, run_check};
 use std::io;
 use std::io::Write;
@@ -43,7 +45,7 @@ fn run<S: OutputSystem, W: Write>(
     call: &Call<'_>,
     given: &mut S::Names,
     out: &mut W,
-) -> Result<u8, u8>
+) -> Result<u8, Refusal>
     ensures satisfies { (cnf answer text said : List ℕ)
         → operands_of call.now ≡ cnf ∷ answer ∷ []
         → is_given (choices_of call.now) (codes "--example") ≡ false

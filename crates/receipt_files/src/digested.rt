@@ -3,9 +3,9 @@ ghost use Rattle.std.specs.Prelude.{◌≡◌, IfErr, IfOk, IfSome, is_some, tru
 ghost use Rattle.command.specs.Held.{held_in};
 ghost use Rattle.command.specs.Inputs.{input_bytes_left};
 ghost use Rattle.receipt_files.specs.Named.{IsDigestOf};
-ghost use Rattle.command.specs.declared.status.TheConstants.{FAILED};
+ghost use Rattle.verdicts.specs.declared.status.Refusal.TheVariants.{Failed};
 
-use command::{FAILED, FaultPlace, HeldBytes, InputNames, InputOf, System, hold_file, say_fault};
+use command::{FaultPlace, HeldBytes, InputNames, InputOf, Refusal, System, hold_file, say_fault};
 use receipts::read_digested;
 use std::alloc::Global;
 use std::fmt::Display;
@@ -31,9 +31,9 @@ pub fn hold_digested<S: System, D: Display + Drop, F: FnOnce(io::Error) -> D + C
     place: FaultPlace<'_>,
     fault_of: F,
     is_wanted: bool,
-) -> Result<Digested, u8>
+) -> Result<Digested, Refusal>
     requires { F.IsAlwaysCallable fault_of }
-    ensures err { IfErr result (λ status. status ≡ FAILED) }
+    ensures err { IfErr result (λ refusal. refusal ≡ Failed) }
     ensures bytes { IfOk result (λ read. IfSome
         (input_bytes_left S.File.remaining S.Input.remaining file.entry) (λ bytes. held_in read.held ≡ bytes)) }
     ensures digest { IfOk result (λ read. IsDigestOf read.digest (held_in read.held)) }
@@ -47,7 +47,7 @@ pub fn hold_digested<S: System, D: Display + Drop, F: FnOnce(io::Error) -> D + C
         Ok(read) => Ok(read),
         Err(fault) => {
             say_fault(rt, names, &fault_of(fault), place);
-            Err(FAILED)
+            Err(Refusal::Failed)
         }
     }
 }

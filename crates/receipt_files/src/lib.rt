@@ -9,5 +9,5 @@ mod whole;
 
 pub use digested::{Digested, hold_digested};
 pub use said::{piece_receipt, refuted_by, satisfied_by};
-pub use shown::show;
+pub use shown::keep_receipt;
 pub use whole::{RECEIPT, whole_receipt};

@@ -2,13 +2,13 @@
 ghost use Rattle.std.specs.Prelude.{◌≡◌, ◌≢◌, [], None, Ok, Some, IfErr, IfOk, IfSome};
 ghost use Rattle.command.specs.Calls.{choices_of};
 ghost use Rattle.command.specs.Outputs.{begun, written_in};
-ghost use Rattle.command.specs.declared.status.TheConstants.{FAILED};
+ghost use Rattle.verdicts.specs.declared.status.Refusal.TheVariants.{Failed};
 ghost use Rattle.receipt_files.specs.Named.{held_by, receipt_in, receipt_name};
 ghost use Rattle.receipts.specs.Lines.{receipt_line};
 ghost use Rattle.receipts.specs.declared.receipt.Receipt.{Receipt};
 ghost use Rattle.verdicts.specs.Statuses.{status_of};
 
-use command::{Call, Entry, FAILED, OutputSystem};
+use command::{Call, Entry, OutputSystem, Refusal};
 use receipts::{Receipt, write_receipt};
 use std::alloc::Global;
 use std::io;
@@ -34,8 +34,8 @@ pub fn whole_receipt<S: OutputSystem, V: Claims, E>(
     file: Option<BufWriter<S::Output>>,
     receipt: Option<Receipt>,
     checked: &Result<V, E>,
-) -> Result<Option<S::Output>, u8>
-    ensures err { IfErr result (λ status. status ≡ FAILED) }
+) -> Result<Option<S::Output>, Refusal>
+    ensures err { IfErr result (λ refusal. refusal ≡ Failed) }
     ensures written { (shown : Receipt) → IfSome receipt (λ receipt. receipt ≡ shown)
         → written_in S.Output.contents file ≡ begun (receipt_name (choices_of call.now))
         → status_of V.claimed checked.now ≡ 0
@@ -54,7 +54,7 @@ pub fn whole_receipt<S: OutputSystem, V: Claims, E>(
         Err(fault) => {
             let _ = eprintln!(system; "error writing: {fault}");
             let _ = eprintln!(system; "in {name}");
-            Err(FAILED)
+            Err(Refusal::Failed)
         }
     }
 }

@@ -4,7 +4,7 @@ ghost use Rattle.command.specs.Inputs.{bytes_named, source_bytes_left};
 ghost use Rattle.session_check.specs.Lines.{alone, both};
 ghost use Rattle.session_check_main.specs.Sessions.{HasRun};
 
-use command::{NOT_RUN, Source, System, open_file, open_inputs};
+use command::{Refusal, Source, System, open_file, open_inputs};
 use session_check::{Counts, RunFault, check_alone, check_session, exit_status};
 use std::io;
 use std::io::Write;
@@ -15,7 +15,7 @@ pub(crate) fn check_proof<S: System, W: Write>(
     system: &S,
     name: &str,
     out: &mut W,
-) -> Result<u8, u8>
+) -> Result<u8, Refusal>
     ensures runs { IfOk result (HasRun
         (alone (bytes_named (S.file_bytes system.now) (S.input_bytes system.now) name.now))
         (W.contents out.old) (W.contents out.new)) }
@@ -34,21 +34,21 @@ pub(crate) fn check_interaction<S: System, W: Write>(
     interaction: &str,
     proof: &str,
     out: &mut W,
-) -> Result<u8, u8>
+) -> Result<u8, Refusal>
     ensures runs { IfOk result (HasRun
         (both (bytes_named (S.file_bytes system.now) (S.input_bytes system.now) interaction.now)
         (bytes_named (S.file_bytes system.now) (S.input_bytes system.now) proof.now))
         (W.contents out.old) (W.contents out.new)) }
     ensures silent { OnErr result (W.contents out.new ≡ W.contents out.old) }
 {
-    let (told, proved) = open_inputs(system, interaction, proof).ok_or(NOT_RUN)?;
+    let (told, proved) = open_inputs(system, interaction, proof).ok_or(Refusal::NotRun)?;
     let outcome = check_session(system.alloc(), told.file, proved.file, out);
     say_end(system, &outcome, interaction, proof);
     Ok(exit_status(&outcome))
 }
 
-/// Opens a file, or takes standard input. An Err is the exit status where it can't be opened.
-fn open<S: System>(system: &S, name: &str) -> Result<Source<S::File, S::Input>, u8>
+/// Opens a file, or takes standard input. An Err is `NotRun` where it can't be opened.
+fn open<S: System>(system: &S, name: &str) -> Result<Source<S::File, S::Input>, Refusal>
     ensures { IfOk result (λ source. source_bytes_left S.File.remaining S.Input.remaining source
         ≡ bytes_named (S.file_bytes system.now) (S.input_bytes system.now) name.now) }
 {
@@ -60,16 +60,16 @@ fn open<S: System>(system: &S, name: &str) -> Result<Source<S::File, S::Input>, 
     } else {
         match open_file(system, name) {
             Some(input) => Ok(input.file),
-            None => Err(NOT_RUN),
+            None => Err(Refusal::NotRun),
         }
     }
 }
 
-/// Prints why standard input can't be read, and returns the exit status 2.
-fn say_closed<S: System>(system: &S, why: io::Error) -> u8 {
+/// Prints why standard input can't be read, and returns `NotRun`.
+fn say_closed<S: System>(system: &S, why: io::Error) -> Refusal {
     let _ = eprintln!(system; "cannot open -");
     let _ = eprintln!(system; "{why}");
-    NOT_RUN
+    Refusal::NotRun
 }
 
 /// Prints why a run was not brought to its end, if it was not, and in which file the fault is.

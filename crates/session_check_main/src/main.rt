@@ -15,7 +15,7 @@ mod files;
 
 use crate::about::ABOUT;
 use crate::files::{check_interaction, check_proof};
-use command::{Call, System, misused, run_program, say_cause};
+use command::{Call, Refusal, System, misused, run_program, say_cause};
 use session_check::{check_session, exit_status};
 use std::io;
 use std::io::Write;
@@ -33,7 +33,7 @@ fn main(rt: HostRuntime) -> ExitCode {
 
 /// Runs a call in a system. The lines of the queries are written to `out`, and so are those of the
 /// example. An Err is the exit status of a call that is not run.
-fn run<S: System, W: Write>(system: &S, call: &Call<'_>, out: &mut W) -> Result<u8, u8>
+fn run<S: System, W: Write>(system: &S, call: &Call<'_>, out: &mut W) -> Result<u8, Refusal>
     ensures runs { (proof : List ℕ)
         → operands_of call.now ≡ proof ∷ []
         → is_given (choices_of call.now) (codes "--example") ≡ false

@@ -1,7 +1,7 @@
 //! Whole runs of a program on listed files.
 use crate::listed::{ListedFiles, Target};
 use crate::outputs::{ListedNames, NamedFile};
-use command::{About, Call, read_words};
+use command::{About, Call, Refusal, read_words};
 use std::alloc::Global;
 
 /// A run of a program: the words of the call, what standard input gives unless it is closed, what
@@ -10,7 +10,7 @@ use std::alloc::Global;
 pub type Run = (
     &'static [&'static str],
     Option<&'static [u8]>,
-    Result<u8, u8>,
+    Result<u8, Refusal>,
     &'static [u8],
     &'static [(&'static str, &'static [u8])],
 );
@@ -25,7 +25,7 @@ pub fn first_unlike<F>(
     run: F,
 ) -> Option<&'static [&'static str]>
 where
-    F: Fn(&ListedFiles<'_>, &Call<'_>, &mut ListedNames, &mut Vec<u8>) -> Result<u8, u8>,
+    F: Fn(&ListedFiles<'_>, &Call<'_>, &mut ListedNames, &mut Vec<u8>) -> Result<u8, Refusal>,
     requires { F.IsAlwaysCallable run }
 {
     for wanted in runs {
@@ -46,7 +46,7 @@ fn ends_well<F>(
     run: &F,
 ) -> Option<bool>
 where
-    F: Fn(&ListedFiles<'_>, &Call<'_>, &mut ListedNames, &mut Vec<u8>) -> Result<u8, u8>,
+    F: Fn(&ListedFiles<'_>, &Call<'_>, &mut ListedNames, &mut Vec<u8>) -> Result<u8, Refusal>,
     requires { F.IsAlwaysCallable run.now }
 {
     let (words, input, answer, output, named) = wanted;

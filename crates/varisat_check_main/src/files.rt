@@ -9,7 +9,7 @@ ghost use Rattle.verdicts.specs.Statuses.{status_of};
 
 use crate::about::ABOUT;
 use command::{
-    Call, FaultLine, FaultPlace, InputNames, System, open_and_hold, progress_of, say_end,
+    Call, FaultLine, FaultPlace, InputNames, Refusal, System, open_and_hold, progress_of, say_end,
 };
 use sat_formula::{DimacsFault, LyingHeader};
 use std::io;
@@ -24,7 +24,7 @@ pub(crate) fn check_files<S: System, W: Write>(
     names: InputNames<'_>,
     call: &Call<'_>,
     out: &mut W,
-) -> Result<u8, u8>
+) -> Result<u8, Refusal>
     ensures refutes { (text : List ℕ)
         → bytes_named (S.file_bytes system.now) (S.input_bytes system.now) names.entry.cnf.now ≡ Some text
         → result ≡ Ok 0 → IsRefuted text }

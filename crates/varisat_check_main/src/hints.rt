@@ -11,7 +11,7 @@ ghost use Rattle.varisat_check.specs.declared.verdict.Verdict.TheVariants.{Unsat
 use crate::about::ABOUT;
 use crate::files::{report, unread_formula};
 use command::{
-    Call, FaultPlace, HeldBytes, InputNames, NOT_RUN, OutputSystem, ReadFile, WrittenFiles,
+    Call, FaultPlace, HeldBytes, InputNames, OutputSystem, ReadFile, Refusal, WrittenFiles,
     hold_file, open_inputs, progress_of,
 };
 use log::Log;
@@ -32,7 +32,7 @@ pub(crate) fn write_hints<S: OutputSystem, W: Write>(
     call: &Call<'_>,
     given: &mut S::Names,
     out: &mut W,
-) -> Result<u8, u8>
+) -> Result<u8, Refusal>
     ensures refutes { (text : List ℕ)
         → bytes_named (S.file_bytes system.now) (S.input_bytes system.now) names.entry.cnf.now ≡ Some text
         → result ≡ Ok 0 → IsRefuted text }
@@ -40,10 +40,10 @@ pub(crate) fn write_hints<S: OutputSystem, W: Write>(
         → Appends (W.contents out.old) (W.contents out.new) (shown_line Unsatisfiable) }
     ensures unnamed { IfErr result (λ status. S.renamed given.new ≡ S.renamed given.old) }
 {
-    let (cnf, proof) = open_inputs(system, names.cnf, names.other).ok_or(NOT_RUN)?;
+    let (cnf, proof) = open_inputs(system, names.cnf, names.other).ok_or(Refusal::NotRun)?;
     let mut files = WrittenFiles::new(system);
     let inputs = [ReadFile::of(system, &cnf), ReadFile::of(system, &proof)];
-    let mut lrat = files.create(lrat_name, &inputs).ok_or(NOT_RUN)?;
+    let mut lrat = files.create(lrat_name, &inputs).ok_or(Refusal::NotRun)?;
     let cnf = hold_file(
         system,
         names,

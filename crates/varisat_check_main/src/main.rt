@@ -23,7 +23,7 @@ use crate::about::ABOUT;
 use crate::example::check_example;
 use crate::files::check_files;
 use crate::hints::write_hints;
-use command::{Call, HostNames, InputNames, OutputSystem, run_program, unnamed};
+use command::{Call, HostNames, InputNames, OutputSystem, Refusal, run_program, unnamed};
 use std::io;
 use std::io::Write;
 use std::process::ExitCode;
@@ -40,7 +40,7 @@ fn run<S: OutputSystem, W: Write>(
     call: &Call<'_>,
     given: &mut S::Names,
     out: &mut W,
-) -> Result<u8, u8>
+) -> Result<u8, Refusal>
     ensures refutes { (cnf proof text : List ℕ) (others : List (List ℕ))
         → operands_of call.now ≡ cnf ∷ proof ∷ others
         → bytes_named (S.file_bytes system.now) (S.input_bytes system.now) cnf ≡ Some text

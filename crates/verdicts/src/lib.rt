@@ -6,11 +6,13 @@
 mod line;
 mod missing;
 mod piece;
+mod shown;
 mod status;
 mod verdict;
 
 pub use line::{write_line, write_piece_line};
 pub use missing::MissingClause;
 pub use piece::PieceVerdict;
-pub use status::{Claims, exit_status};
+pub use shown::{Shown, Unshown, show_line};
+pub use status::{Claims, Refusal, ended, exit_status};
 pub use verdict::Verdict;

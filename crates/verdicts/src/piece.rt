@@ -2,8 +2,12 @@
 ghost use Rattle.std.specs.Prelude.{◌≡◌};
 ghost use Rattle.verdicts.specs.Pieces.{piece_line, shows_wanted};
 
+use crate::shown::Shown;
 use crate::status::Claims;
 use crate::verdict::Verdict;
+use std::io;
+use std::io::Write;
+use whole_writes::write_whole;
 
 /// What a piece of a proof, whose lines were all accepted, has shown of its formula.
 #[derive(Clone, Copy, Debug, PartialEq, Eq)]
@@ -36,5 +40,13 @@ impl Claims for PieceVerdict {
 
     fn claims(&self) -> bool {
         matches!(self, PieceVerdict::Refuted | PieceVerdict::Carried)
+    }
+}
+
+impl Shown for PieceVerdict {
+    ghost line = { piece_line };
+
+    fn write_line<W: Write>(&self, out: &mut W) -> io::Result<()> {
+        write_whole(out, self.line())
     }
 }

@@ -1,9 +1,12 @@
 //! Verdicts and their lines.
-ghost use Rattle.std.specs.Prelude.{◌≡◌, Some};
-ghost use Rattle.verdicts.specs.Verdicts.{line_of, shown_line, shows_unsat, verdict_of};
+ghost use Rattle.std.specs.Prelude.{◌≡◌};
+ghost use Rattle.verdicts.specs.Verdicts.{shown_line, shows_unsat, verdict_of};
 
+use crate::shown::Shown;
 use crate::status::Claims;
-use std::fmt;
+use std::io;
+use std::io::Write;
+use whole_writes::write_whole;
 
 /// What a proof whose lines were all accepted has shown of its formula.
 #[derive(Clone, Copy, Debug, PartialEq, Eq)]
@@ -46,14 +49,10 @@ impl Claims for Verdict {
     }
 }
 
-/// Writes the verdict's line, without a line feed.
-impl fmt::Display for Verdict {
-    ghost output = { λ verdict. Some (line_of verdict) };
+impl Shown for Verdict {
+    ghost line = { shown_line };
 
-    fn fmt<W: fmt::Write>(&self, f: &mut fmt::Formatter<W>) -> fmt::Result {
-        match *self {
-            Verdict::Verified => write!(f, "s VERIFIED UNSAT"),
-            Verdict::NotVerified => write!(f, "s NOT VERIFIED"),
-        }
+    fn write_line<W: Write>(&self, out: &mut W) -> io::Result<()> {
+        write_whole(out, self.line())
     }
 }
