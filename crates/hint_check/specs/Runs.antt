@@ -2,8 +2,6 @@
 --     AcceptsHints, RefusesHints, ChecksHints      all lines were accepted;  one was rejected;  the answer of checking them over a formula
 --     IsUnread cause fault      what is answered where a read failed
 --     CheckRun ids cnf lrat r      the run over both texts
---     IsRefusedRun r      the formula or the hints were not accepted
---     IsUnwritten r, BeginsLine      the verdict's line was not written whole, and what was written then
 --     RunTellsLie cnf r told      this is reported of the formula's header
 use Rattle.std.specs.Prelude.{◌≡◌, ◌≢◌, ℕ, Bool, false, List, length, Option, None, Result, Ok, Err}
 use Rattle.std.specs.IoError.{error_kind}
@@ -23,11 +21,10 @@ use Rattle.hint_checker.specs.declared.fault.HintFault.{HintFault}
 use Rattle.hint_checker.specs.declared.fault.HintFault.TheVariants as hints
 use Rattle.hint_checker.specs.declared.fault.HintTextFault.TheVariants.{Refused}
 use Rattle.sat_formula.specs.Lies.{IsLie}
-use Rattle.whole_writes.specs.Beginnings.{AppendsBeginning}
-use Rattle.verdicts.specs.Verdicts.{shown_line, verdict_of}
+use Rattle.verdicts.specs.Verdicts.{verdict_of}
 use Rattle.hint_check.specs.Proofs.{AcceptsProof, IsProofRefusal}
 use Rattle.hint_check.specs.declared.fault.RunFault.{RunFault}
-use Rattle.hint_check.specs.declared.fault.RunFault.TheVariants.{Formula, Hints, Read, Write}
+use Rattle.hint_check.specs.declared.fault.RunFault.TheVariants.{Formula, Hints, Read}
 use Rattle.verdicts.specs.declared.verdict.Verdict.{Verdict}
 use Rattle.verdicts.specs.declared.verdict.Verdict.TheVariants.{Verified}
 
@@ -55,20 +52,12 @@ ChecksHints ids lrat formula (Ok verdict) = AcceptsHints ids lrat formula verdic
 ChecksHints ids lrat formula (Err (Hints fault)) = RefusesHints ids lrat formula fault
 ChecksHints ids lrat formula (Err (Read cause)) = error_kind cause ≢ OutOfMemory
 ChecksHints ids lrat formula (Err (Formula fault)) = ⊥
-ChecksHints ids lrat formula (Err (Write cause)) = ⊥
 
 -- a failed read was out of memory, or its error is answered
 abbrev pub IsUnread : Error → RunFault → Type 0
 IsUnread cause (Hints fault) = (error_kind cause ≡ OutOfMemory) × (fault ≡ hints.OutOfMemory)
 IsUnread cause (Read error) = (error_kind cause ≢ OutOfMemory) × (error ≡ cause)
 IsUnread cause (Formula fault) = ⊥
-IsUnread cause (Write error) = ⊥
-
--- the formula or the hints were not accepted
-abbrev pub IsRefusedRun : Result Verdict RunFault → Type 0
-IsRefusedRun (Ok verdict) = ⊥
-IsRefusedRun (Err (Write cause)) = ⊥
-IsRefusedRun r = Unit {0}
 
 -- the formula's text was read whole, and the proof was checked over its clauses with this answer
 pub record ReadAndChecked (ids : Option Ids) (cnf lrat : Option (List ℕ))
@@ -82,20 +71,7 @@ abbrev pub CheckRun : Option Ids → Option (List ℕ) → Option (List ℕ) →
     Type 0
 CheckRun ids cnf lrat (Err (Formula fault)) = (clauses : List (List ℕ))
     × FailsAfter (option_map outcome_of cnf) clauses fault
-CheckRun ids cnf lrat (Err (Write cause)) =
-    (verdict : Verdict) × ReadAndChecked ids cnf lrat (Ok verdict)
 CheckRun ids cnf lrat r = ReadAndChecked ids cnf lrat r
-
--- there is a verdict, and its line was not written whole
-abbrev pub IsUnwritten : Result Verdict RunFault → Type 0
-IsUnwritten (Err (Write cause)) = Unit {0}
-IsUnwritten r = ⊥
-
--- both texts were read and checked with this verdict, and an output grew by a beginning of its line
-pub record BeginsLine (ids : Option Ids) (cnf lrat old new : Option (List ℕ)) : Type 0 where
-  pub verdict : Verdict
-  pub checked : ReadAndChecked ids cnf lrat (Ok verdict)
-  pub begins : AppendsBeginning old new (shown_line verdict)
 
 -- the mismatch of the header, if the formula was read whole; else nothing
 abbrev pub RunTellsLie : Option (List ℕ) → Result Verdict RunFault → Option LyingHeader → Type 0

@@ -16,7 +16,4 @@ pub enum RunFault {
     /// A line of hints was rejected, or memory ran out.
     #[error("{0}")]
     Hints(HintFault),
-    /// The verdict was reached, but its line could not be written.
-    #[error("error writing: {0}")]
-    Write(io::Error),
 }

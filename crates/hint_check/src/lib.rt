@@ -1,4 +1,4 @@
-//! Whether a proof in lines of hints shows a formula to be unsatisfiable, said in one line.
+//! Whether a proof in lines of hints shows a formula to be unsatisfiable, by the hints of its lines.
 //!
 //! The checker of proofs takes no part in it.
 #![tactic(auto)]
@@ -10,4 +10,4 @@ mod run;
 pub use fault::RunFault;
 pub use lrat_binary::Ids;
 pub use run::run_check;
-pub use verdicts::{Verdict, exit_status};
+pub use verdicts::Verdict;

@@ -4,13 +4,9 @@
 //! `--example` checks a small fixed example. The name `-` is standard input.
 #![tactic(auto)]
 
-ghost use Rattle.std.specs.Prelude.{◌≡◌, ℕ, List, [], ◌∷◌, Ok, Some, codes, false};
-ghost use Rattle.std.specs.Io.KnownBytes.{Appends};
-ghost use Rattle.command.specs.Calls.{choices_of, is_given, operands_of};
-ghost use Rattle.command.specs.Inputs.{bytes_named};
-ghost use Rattle.sat_formula.specs.Refuted.{IsRefuted};
-ghost use Rattle.verdicts.specs.Verdicts.{shown_line};
-ghost use Rattle.verdicts.specs.declared.verdict.Verdict.TheVariants.{Verified};
+ghost use Rattle.hint_check_main.specs.Meaning.{Means};
+ghost use Rattle.verdicts.specs.Statuses.{Ends, status_shown};
+ghost use Rattle.verdicts.specs.Verdicts.{shown_line, shows_unsat};
 
 mod about;
 mod files;
@@ -18,10 +14,11 @@ mod files;
 use crate::about::ABOUT;
 use crate::files::check_files;
 use command::{Call, EXAMPLE_FORMULA, EXAMPLE_LRAT, Refusal, System, run_program, say_cause};
-use hint_check::{exit_status, run_check};
+use hint_check::run_check;
 use std::io;
 use std::io::Write;
 use std::process::ExitCode;
+use verdicts::{Unshown, ended, show_line};
 
 fn main(rt: HostRuntime) -> ExitCode {
     run_program(&rt, &ABOUT, |call| run(&rt, call, &mut io::writer(&rt)))
@@ -29,26 +26,24 @@ fn main(rt: HostRuntime) -> ExitCode {
 
 /// Runs a call in a system, with `out` as its standard output.
 fn run<S: System, W: Write>(system: &S, call: &Call<'_>, out: &mut W) -> Result<u8, Refusal>
-    ensures refutes { (cnf lines text : List ℕ)
-        → operands_of call.now ≡ cnf ∷ lines ∷ []
-        → is_given (choices_of call.now) (codes "--example") ≡ false
-        → bytes_named (S.file_bytes system.now) (S.input_bytes system.now) cnf ≡ Some text
-        → result ≡ Ok 0 → IsRefuted text }
-    ensures line { result ≡ Ok 0
-        → Appends (W.contents out.old) (W.contents out.new) (shown_line Verified) }
+    ensures ends { Ends shown_line (status_shown shows_unsat)
+        (Means (S.file_bytes system.now) (S.input_bytes system.now) call.now) (Unit {0})
+        (W.contents out.old) (W.contents out.new) result }
 {
     if call.has("--example") {
-        Ok(check_example(system, out))
+        check_example(system, out)
     } else {
         check_files(system, call, out)
     }
 }
 
-fn check_example<S: System, W: Write>(system: &S, out: &mut W) -> u8
-    ensures { result ≡ 0 → Appends (W.contents out.old) (W.contents out.new) (shown_line Verified) }
+fn check_example<S: System, W: Write>(system: &S, out: &mut W) -> Result<u8, Refusal>
+    ensures ends { Ends shown_line (status_shown shows_unsat) (λ verdict. Unit {0}) (Unit {0})
+        (W.contents out.old) (W.contents out.new) result }
 {
     let (cnf, lrat) = (EXAMPLE_FORMULA, EXAMPLE_LRAT);
-    let outcome = run_check(system.alloc(), cnf, lrat, None, out, &mut None);
+    let checked = run_check(system.alloc(), cnf, lrat, None, &mut None).map_err(Unshown::Fault);
+    let outcome = show_line(checked, out);
     say_cause(system, &outcome);
-    exit_status(&outcome)
+    ended(&outcome)
 }
