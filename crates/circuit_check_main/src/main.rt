@@ -45,14 +45,20 @@ use crate::never::run_of_never;
 use crate::reached::run_of_reached;
 use crate::safe::run_of_safe;
 use crate::same::run_of_same;
-use command::{Call, HostNames, OutputSystem, Refusal, run_program};
+use command::{Call, Host, HostNames, OutputSystem, Refusal, run_program};
 use std::io;
 use std::io::Write;
 use std::process::ExitCode;
 
 fn main(rt: HostRuntime) -> ExitCode {
+    let host = Host::new(&rt);
     run_program(&rt, &ABOUT, |call| {
-        run(&rt, call, &mut HostNames::new(&rt), &mut io::writer(&rt))
+        run(
+            &host,
+            call,
+            &mut HostNames::new(&host),
+            &mut io::writer(&rt),
+        )
     })
 }
 

@@ -1,5 +1,6 @@
 //! The host as a system on which files are written. No contract can state what its calls do, so
 //! this file is trusted by reading.
+use crate::host_once::Host;
 use crate::outputs::{FileId, OutputSystem};
 use std::fs::{File, Metadata};
 use std::io::ErrorKind;
@@ -14,12 +15,12 @@ pub struct HostNames {
 
 impl HostNames {
     /// Returns the names, none of which was given so far.
-    pub fn new(_rt: &HostRuntime) -> HostNames {
+    pub fn new(_host: &Host<'_>) -> HostNames {
         HostNames { seal: () }
     }
 }
 
-impl OutputSystem for HostRuntime {
+impl OutputSystem for Host<'_> {
     ghost use Rattle.std.specs.Prelude.{None};
 
     type Output = File;
@@ -33,20 +34,20 @@ impl OutputSystem for HostRuntime {
     ghost unwritten = { λ _. None };
 
     fn open_new(&self, name: &str) -> io::Result<File> {
-        File::create_new(self, name)
+        File::create_new(self.rt, name)
     }
 
     fn open_in_place(&self, name: &str) -> io::Result<File> {
-        File::create(self, name)
+        File::create(self.rt, name)
     }
 
     fn place_of(&self, name: &str) -> io::Result<Option<String>> {
-        if let Ok(there) = fs::metadata(self, name) {
+        if let Ok(there) = fs::metadata(self.rt, name) {
             if !there.is_file() {
                 return Ok(None);
             }
-            if fs::symlink_metadata(self, name)?.is_symlink() {
-                return Ok(Some(fs::canonicalize(self, name)?.into_string()));
+            if fs::symlink_metadata(self.rt, name)?.is_symlink() {
+                return Ok(Some(fs::canonicalize(self.rt, name)?.into_string()));
             }
         }
         Ok(Some(String::from_str(self.alloc(), name)?))
@@ -54,20 +55,20 @@ impl OutputSystem for HostRuntime {
 
     fn rename(&self, _names: &mut HostNames, file: File, from: &str, to: &str) -> io::Result<()> {
         let id = self.id_of_output(&file)?;
-        if !is_there(self, from, id) {
+        if !is_there(self.rt, from, id) {
             return Err(io::Error::from(ErrorKind::NotFound));
         }
-        fs::rename(self, from, to)
+        fs::rename(self.rt, from, to)
     }
 
     fn remove(&self, name: &str, id: FileId) {
-        if is_there(self, name, id) {
-            let _ = fs::remove_file(self, name);
+        if is_there(self.rt, name, id) {
+            let _ = fs::remove_file(self.rt, name);
         }
     }
 
     fn id_of_name(&self, name: &str) -> Option<FileId> {
-        regular_id(fs::metadata(self, name))
+        regular_id(fs::metadata(self.rt, name))
     }
 
     fn id_of_file(&self, file: &File) -> Option<FileId> {
@@ -79,21 +80,21 @@ impl OutputSystem for HostRuntime {
     }
 
     fn leads_nowhere(&self, name: &str) -> bool {
-        match fs::symlink_metadata(self, name) {
-            Ok(there) => there.is_symlink() && fs::metadata(self, name).is_err(),
+        match fs::symlink_metadata(self.rt, name) {
+            Ok(there) => there.is_symlink() && fs::metadata(self.rt, name).is_err(),
             Err(_) => false,
         }
     }
 
     fn take_permissions(&self, file: &File, of: &str) -> io::Result<()> {
-        match fs::metadata(self, of) {
+        match fs::metadata(self.rt, of) {
             Ok(there) => file.set_permissions(there.permissions()),
             Err(_) => Ok(()),
         }
     }
 
     fn process_number(&self) -> u32 {
-        process::id(self.process())
+        process::id(self.rt.process())
     }
 }
 
@@ -111,7 +112,7 @@ fn regular_id(data: io::Result<Metadata>) -> Option<FileId> {
     }
 }
 
-fn id_of(data: &Metadata) -> FileId {
+pub(crate) fn id_of(data: &Metadata) -> FileId {
     FileId {
         device: data.dev(),
         number: data.ino(),

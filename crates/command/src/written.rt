@@ -25,7 +25,7 @@ const ONE_FILE: &str = "both outputs are one file";
 /// A regular file, or one that does not exist, is written as a new file, under a name that no
 /// other file has, and is renamed once all are whole. The old content stays until then. If it is
 /// not renamed, the new file is removed. A pipe or a device is written in place.
-pub struct WrittenFiles<'a, S: OutputSystem = HostRuntime> {
+pub struct WrittenFiles<'a, S: OutputSystem> {
     system: &'a S,
     /// The names of all, as the call has them.
     names: Vec<&'a str>,

@@ -38,15 +38,21 @@ use crate::about::ABOUT;
 use crate::example::check_example;
 use crate::files::check_files;
 use crate::piece::check_piece;
-use command::{Call, HostNames, OutputSystem, Refusal, input_names, misused, run_program};
+use command::{Call, Host, HostNames, OutputSystem, Refusal, input_names, misused, run_program};
 use drat_check::ProofFormat;
 use std::io;
 use std::io::Write;
 use std::process::ExitCode;
 
 fn main(rt: HostRuntime) -> ExitCode {
+    let host = Host::new(&rt);
     run_program(&rt, &ABOUT, |call| {
-        run(&rt, call, &mut HostNames::new(&rt), &mut io::writer(&rt))
+        run(
+            &host,
+            call,
+            &mut HostNames::new(&host),
+            &mut io::writer(&rt),
+        )
     })
 }
 

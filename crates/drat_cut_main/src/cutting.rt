@@ -67,7 +67,7 @@ fn write_piece<P: Read + Drop, L: Log>(
     files: &PieceFiles<'_>,
 ) -> Result<bool, CutFailure> {
     let name = files.name(number, "drat")?;
-    let mut written = WrittenFiles::new(files.rt);
+    let mut written = WrittenFiles::new(files.host);
     let mut out = files.create(&mut written, name.as_str())?;
     let goes_on = write_steps(piece, cutter, steps, &mut out)?;
     if goes_on {

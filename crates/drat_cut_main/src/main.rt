@@ -19,51 +19,67 @@ use crate::fault::CutFailure;
 use crate::files::PieceFiles;
 use crate::piece::Limits;
 use command::{
-    Call, InputNames, Refusal, misused, open_inputs, progress_of, run_program, say_fault, unnamed,
+    Call, Host, InputNames, Refusal, misused, open_inputs, progress_of, run_program, say_fault,
+    unnamed,
 };
 use drat_cut::Additions;
 use std::process::ExitCode;
 
 fn main(rt: HostRuntime) -> ExitCode {
-    run_program(&rt, &ABOUT, |call| run(&rt, call))
+    let host = Host::new(&rt);
+    run_program(&rt, &ABOUT, |call| run(&host, call))
 }
 
-fn run(rt: &HostRuntime, call: &Call<'_>) -> Result<u8, Refusal> {
+fn run(host: &Host<'_>, call: &Call<'_>) -> Result<u8, Refusal> {
     let Some(limits) = Limits::of_call(call) else {
-        return Err(misused(rt, &ABOUT, "--lemmas and --live take a number from 1 on"));
+        return Err(misused(host, &ABOUT, "--lemmas and --live take a number from 1 on"));
     };
     match call.operands.as_slice() {
         [cnf, proof, prefix] => {
             let (cnf, other) = (cnf.as_str(), proof.as_str());
-            cut_files(rt, InputNames { cnf, other }, prefix.as_str(), limits, call)
+            cut_files(
+                host,
+                InputNames { cnf, other },
+                prefix.as_str(),
+                limits,
+                call,
+            )
         }
-        operands => Err(unnamed(rt, &ABOUT, operands.len())),
+        operands => Err(unnamed(host, &ABOUT, operands.len())),
     }
 }
 
 /// Cuts the proof of these files. Returns the exit status.
 fn cut_files(
-    rt: &HostRuntime,
+    host: &Host<'_>,
     names: InputNames<'_>,
     prefix: &str,
     limits: Limits,
     call: &Call<'_>,
 ) -> Result<u8, Refusal> {
-    let (cnf, proof) = open_inputs(rt, names.cnf, names.other).ok_or(Refusal::NotRun)?;
+    let (cnf, proof) = open_inputs(host, names.cnf, names.other).ok_or(Refusal::NotRun)?;
     let additions = if call.has("--drat") {
         Additions::Drat
     } else {
         Additions::Dpr
     };
-    let files = PieceFiles::new(rt, prefix, names.cnf, names.other);
-    let told = &progress_of(rt, &ABOUT, call);
-    let proof = proof.told(rt, told);
-    match cut(told, rt.alloc(), cnf.file, proof, additions, limits, &files) {
+    let files = PieceFiles::new(host, prefix, names.cnf, names.other);
+    let told = &progress_of(host, &ABOUT, call);
+    let proof = proof.told(host, told);
+    match cut(
+        told,
+        host.alloc(),
+        cnf.file,
+        proof,
+        additions,
+        limits,
+        &files,
+    ) {
         Ok(true) => Ok(0),
         Ok(false) => Ok(3),
         Err(CutFailure::Unopened) => Err(Refusal::NotRun),
         Err(fault) => {
-            say_fault(rt, names, &fault, fault.place());
+            say_fault(host, names, &fault, fault.place());
             Err(Refusal::Failed)
         }
     }

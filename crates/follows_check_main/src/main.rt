@@ -26,15 +26,21 @@ use crate::about::ABOUT;
 use crate::example::check_example;
 use crate::files::{Names, check_answer, check_proof};
 use crate::question::write_formula;
-use command::{Call, HostNames, OutputSystem, Refusal, misused, run_program, unnamed};
+use command::{Call, Host, HostNames, OutputSystem, Refusal, misused, run_program, unnamed};
 use follows_check::ProofFormat;
 use std::io;
 use std::io::Write;
 use std::process::ExitCode;
 
 fn main(rt: HostRuntime) -> ExitCode {
+    let host = Host::new(&rt);
     run_program(&rt, &ABOUT, |call| {
-        run(&rt, call, &mut HostNames::new(&rt), &mut io::writer(&rt))
+        run(
+            &host,
+            call,
+            &mut HostNames::new(&host),
+            &mut io::writer(&rt),
+        )
     })
 }
 

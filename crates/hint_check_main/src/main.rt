@@ -13,7 +13,7 @@ mod files;
 
 use crate::about::ABOUT;
 use crate::files::check_files;
-use command::{Call, EXAMPLE_FORMULA, EXAMPLE_LRAT, Refusal, System, run_program, say_cause};
+use command::{Call, EXAMPLE_FORMULA, EXAMPLE_LRAT, Host, Refusal, System, run_program, say_cause};
 use hint_check::run_check;
 use std::io;
 use std::io::Write;
@@ -21,7 +21,8 @@ use std::process::ExitCode;
 use verdicts::{Unshown, ended, show_line};
 
 fn main(rt: HostRuntime) -> ExitCode {
-    run_program(&rt, &ABOUT, |call| run(&rt, call, &mut io::writer(&rt)))
+    let host = Host::new(&rt);
+    run_program(&rt, &ABOUT, |call| run(&host, call, &mut io::writer(&rt)))
 }
 
 /// Runs a call in a system, with `out` as its standard output.

@@ -18,7 +18,7 @@ mod files;
 
 use crate::about::ABOUT;
 use crate::files::{check_formula, check_parts};
-use command::{Call, EXAMPLE_FORMULA, Refusal, System, input_names, run_program, say_cause};
+use command::{Call, EXAMPLE_FORMULA, Host, Refusal, System, input_names, run_program, say_cause};
 use join_check::{exit_status, run_pieces};
 use std::io;
 use std::io::Write;
@@ -29,7 +29,8 @@ const EXAMPLE_RECEIPTS: &[u8] =
     b"carries sha256 bdcfed14408fb3f368fe82437336d283a9dedc953677460e9c7317724c5e1e58 sha256 5b9a41d874a0fe67c37a54d9363f7f582bd27bd7c12e48416edd0a10d736da32\nrefuted sha256 5b9a41d874a0fe67c37a54d9363f7f582bd27bd7c12e48416edd0a10d736da32\n";
 
 fn main(rt: HostRuntime) -> ExitCode {
-    run_program(&rt, &ABOUT, |call| run(&rt, call, &mut io::writer(&rt)))
+    let host = Host::new(&rt);
+    run_program(&rt, &ABOUT, |call| run(&host, call, &mut io::writer(&rt)))
 }
 
 /// Runs a call in a system, with `out` as its standard output.

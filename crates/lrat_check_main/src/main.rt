@@ -25,7 +25,7 @@ use crate::about::ABOUT;
 use crate::files::check_files;
 use crate::piece::check_piece;
 use command::{
-    Call, EXAMPLE_FORMULA, EXAMPLE_LRAT, HostNames, OutputSystem, Refusal, System, ids_of,
+    Call, EXAMPLE_FORMULA, EXAMPLE_LRAT, Host, HostNames, OutputSystem, Refusal, System, ids_of,
     input_names, run_program, say_cause,
 };
 use lrat_check::{Ids, exit_status, run_check};
@@ -34,8 +34,14 @@ use std::io::Write;
 use std::process::ExitCode;
 
 fn main(rt: HostRuntime) -> ExitCode {
+    let host = Host::new(&rt);
     run_program(&rt, &ABOUT, |call| {
-        run(&rt, call, &mut HostNames::new(&rt), &mut io::writer(&rt))
+        run(
+            &host,
+            call,
+            &mut HostNames::new(&host),
+            &mut io::writer(&rt),
+        )
     })
 }
 

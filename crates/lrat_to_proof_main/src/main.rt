@@ -17,13 +17,18 @@ mod files;
 use crate::about::ABOUT;
 use crate::files::{Form, convert_files};
 use command::{
-    Call, HostNames, InputNames, OutputSystem, Refusal, ids_of, misused, run_program, unnamed,
+    Call, Host, HostNames, InputNames, OutputSystem, Refusal, ids_of, misused, run_program, unnamed,
 };
 use lrat_to_proof::{HashWidth, Ids};
 use std::process::ExitCode;
 
 fn main(rt: HostRuntime) -> ExitCode {
-    run_program(&rt, &ABOUT, |call| run(&rt, call, &mut HostNames::new(&rt)))
+    let host = Host::new(&rt);
+    run_program(
+        &rt,
+        &ABOUT,
+        |call| run(&host, call, &mut HostNames::new(&host)),
+    )
 }
 
 /// Runs a call in a system.

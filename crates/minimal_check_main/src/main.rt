@@ -22,14 +22,15 @@ mod files;
 use crate::about::ABOUT;
 use crate::example::check_example;
 use crate::files::check_files;
-use command::{Call, InputNames, Refusal, System, misused, run_program, unnamed};
+use command::{Call, Host, InputNames, Refusal, System, misused, run_program, unnamed};
 use follows_check::ProofFormat;
 use std::io;
 use std::io::Write;
 use std::process::ExitCode;
 
 fn main(rt: HostRuntime) -> ExitCode {
-    run_program(&rt, &ABOUT, |call| run(&rt, call, &mut io::writer(&rt)))
+    let host = Host::new(&rt);
+    run_program(&rt, &ABOUT, |call| run(&host, call, &mut io::writer(&rt)))
 }
 
 /// Runs a call in a system, with `out` as its standard output.

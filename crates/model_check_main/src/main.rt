@@ -20,7 +20,7 @@ mod files;
 use crate::about::ABOUT;
 use crate::files::check_files;
 use command::{
-    Call, HostNames, OutputSystem, Refusal, System, input_names, run_program, say_cause,
+    Call, Host, HostNames, OutputSystem, Refusal, System, input_names, run_program, say_cause,
 };
 use model_check::{exit_status, run_check};
 use std::io;
@@ -34,8 +34,14 @@ const EXAMPLE_FORMULA: &[u8] = b"p cnf 3 3\n1 2 0\n-1 3 0\n-2 -3 0\n";
 const EXAMPLE_ANSWER: &[u8] = b"s SATISFIABLE\nv 1 -2 3 0\n";
 
 fn main(rt: HostRuntime) -> ExitCode {
+    let host = Host::new(&rt);
     run_program(&rt, &ABOUT, |call| {
-        run(&rt, call, &mut HostNames::new(&rt), &mut io::writer(&rt))
+        run(
+            &host,
+            call,
+            &mut HostNames::new(&host),
+            &mut io::writer(&rt),
+        )
     })
 }
 

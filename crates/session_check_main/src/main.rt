@@ -15,7 +15,7 @@ mod files;
 
 use crate::about::ABOUT;
 use crate::files::{check_interaction, check_proof};
-use command::{Call, Refusal, System, misused, run_program, say_cause};
+use command::{Call, Host, Refusal, System, misused, run_program, say_cause};
 use session_check::{check_session, exit_status};
 use std::io;
 use std::io::Write;
@@ -28,7 +28,8 @@ const EXAMPLE_PROOF: &[u8] = b"p lidrup\ni 1 1 2 0\nq -1 0\ns SATISFIABLE\nm -1 
 s UNSATISFIABLE\nu -1 -2 0 1 0\n";
 
 fn main(rt: HostRuntime) -> ExitCode {
-    run_program(&rt, &ABOUT, |call| run(&rt, call, &mut io::writer(&rt)))
+    let host = Host::new(&rt);
+    run_program(&rt, &ABOUT, |call| run(&host, call, &mut io::writer(&rt)))
 }
 
 /// Runs a call in a system. The lines of the queries are written to `out`, and so are those of the

@@ -23,14 +23,20 @@ use crate::about::ABOUT;
 use crate::example::check_example;
 use crate::files::check_files;
 use crate::hints::write_hints;
-use command::{Call, HostNames, InputNames, OutputSystem, Refusal, run_program, unnamed};
+use command::{Call, Host, HostNames, InputNames, OutputSystem, Refusal, run_program, unnamed};
 use std::io;
 use std::io::Write;
 use std::process::ExitCode;
 
 fn main(rt: HostRuntime) -> ExitCode {
+    let host = Host::new(&rt);
     run_program(&rt, &ABOUT, |call| {
-        run(&rt, call, &mut HostNames::new(&rt), &mut io::writer(&rt))
+        run(
+            &host,
+            call,
+            &mut HostNames::new(&host),
+            &mut io::writer(&rt),
+        )
     })
 }
 
