@@ -528,6 +528,31 @@ case_claims() {
   wants 1 '' $'models: line 1: bad number\nin wrong' "$minimal" core refuted wrong
 }
 
+# Standard input and a pipe give their bytes once: what would open one again, by whatever name, is refused.
+case_once() {
+  again=$'cannot open /dev/stdin\na pipe gives its bytes once'
+  for program in "$check" "$lrat_check" "$hint_check" "$drat_check" "$model_check"; do
+    wants 2 '' "$again" piped f "$program" - /dev/stdin
+    wants 2 '' "$again" piped f "$program" /dev/stdin -
+    wants 2 '' "$again" piped f "$program" /dev/stdin /dev/stdin
+  done
+  wants 2 '' "$again" piped f "$lrat_check" - l --holds /dev/stdin
+  wants 2 '' "$again" piped f "$drat_check" - d --holds /dev/stdin
+  # two names of one pipe, which a writer holds open
+  mkfifo way
+  ln -s way other
+  held() {
+    local status=0
+    exec 6<> way
+    timeout 20 "$@" || status=$?
+    exec 6>&-
+    return "$status"
+  }
+  wants 2 '' $'cannot open other\na pipe gives its bytes once' held "$lrat_check" way other
+  # a device may be read twice
+  wants 3 's NOT VERIFIED' '' "$lrat_check" /dev/null /dev/null
+}
+
 # A full disk: nothing is claimed, and no run ends well.
 case_full_disk() {
   printf 'p cnf 2 1\n1 2 0\n' > f.right
