@@ -22,8 +22,8 @@ pub struct Digested {
 ///
 /// # Errors
 ///
-/// The exit status 1 as `hold_file`, and if there is no memory for the bytes twice, which are
-/// copied where a digest is wanted.
+/// `Failed` as `hold_file`, and if there is no memory for the bytes twice, which are copied where a
+/// digest is wanted.
 pub fn hold_digested<S: System, D: Display + Drop, F: FnOnce(io::Error) -> D + Copy>(
     rt: &S,
     names: InputNames<'_>,

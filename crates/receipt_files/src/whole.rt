@@ -27,7 +27,7 @@ pub const RECEIPT: Entry<'static> = Entry {
 ///
 /// # Errors
 ///
-/// The exit status 1 if that fails; standard error has the fault and the name.
+/// `Failed` if that fails; standard error has the fault and the name.
 pub fn whole_receipt<S: OutputSystem, V: Claims, E>(
     system: &S,
     call: &Call<'_>,
