@@ -5,7 +5,7 @@ lines of claims mean, by the definitions that theirs reach beyond these.
     python3 docs/definitions_page.py --check     says whether the page is the one that would be written, and writes nothing
 
 A name is looked up as its file has it: declared there, or by its lines `use`. A constructor stands for its whole data type. Of the
-lines of claims, what a text says is no part of the page: it names the files.
+lines of claims, how a formula is read is no part again.
 """
 
 import os
@@ -27,8 +27,8 @@ CLAIMS = {
     "SAFE": ("crates/circuit_check/specs/Claims.antt", "IsSafeText"),
     "REACHED": ("crates/circuit_check/specs/Claims.antt", "IsReachedText"),
 }
-# What is not followed: what a text is read as.
-READ = ("crates/circuit_text/specs/Aigers.antt", "crates/sat_formula/specs/")
+# What is not followed: what a formula's text is read as.
+READ = "crates/sat_formula/specs/"
 
 DECLARED = re.compile(r"(?:abbrev|unfoldable) pub (\w+) :|pub (?:data|record) (\w+)\b")
 CONSTRUCTOR = re.compile(r"  (\w+) : ")
@@ -53,6 +53,7 @@ for Coq.
 | `List A`, `[]`, `x ∷ xs`, `xs ++ ys` | lists; the empty list; `x` in front of the list `xs`; two lists, concatenated |
 | `λ x. E` | the function from `x` to `E` |
 | `A × B`, `(x, y)`, `o.0`, `o.1` | pairs: the type, a pair, its two parts |
+| `A ⊎ B`, `⊥` | one of the two at least; what has no proof |
 | `(x : A) × P` | there is an `x` with the property `P`. The proof contains it |
 | `(x : A) → P` | every `x` has the property `P` |
 | `x ≡ y` | a claim: both are equal. `x == y` compares two numbers and is `true` or `false` |
@@ -73,9 +74,8 @@ A literal is a code: twice the index of its variable, plus 1 if it is negative. 
 CLAIMS_HEAD = """
 # What the lines of claims mean
 
-Each is the definition in its contract, with all that it reaches and that is not above, except how a text is read: a formula's as above, \
-its header by `crates/sat_formula/specs/Lies.antt`, a circuit's by `crates/circuit_text/specs/Aigers.antt`. A record holds if all its \
-fields do; a field that is no claim, as `clauses`, exists.
+Each is the definition in its contract, with all that it reaches and that is not above, except how the header of a formula is read, by \
+`crates/sat_formula/specs/Lies.antt`. A record holds if all its fields do; a field that is no claim, as `clauses`, exists.
 """
 
 

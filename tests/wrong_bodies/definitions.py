@@ -4,8 +4,8 @@ Each is turned in a copy of the repository, and the crate of rows is checked ove
 them, so that what refuses is a row, which is computed on the definition, and not the written proof of a law, which may merely no
 longer fit. A definition of a format that is not below `definition_rows` is asked of the rows of its own crate, which are its laws.
 
-`crates/definition_rows/REFUSED` has a line for each: its sum, over its own text, the file that it turns, and the rows; its name; and
-the functions that were not proved. It exits 1 if one is proved, or was not judged.
+`crates/definition_rows/REFUSED` has a line for each: its sum, over its own text, the file that it turns, and the rows and laws; its
+name; and the functions that were not proved. It exits 1 if one is proved, or was not judged.
 """
 
 import concurrent.futures
@@ -38,7 +38,7 @@ class Turned:
     def sum(self):
         crate = f"{ROOT}/crates/{self.rows}"
         files = files_in(f"{crate}/specs")
-        files = files + files_in(f"{crate}/src") if self.rows == ROWS else [it for it in files if it.endswith("Rows.antt")]
+        files = files + files_in(f"{crate}/src") if self.rows == ROWS else [it for it in files if it.endswith(("Rows.antt", "Laws.antt"))]
         rows = {os.path.relpath(it, crate): words_of(it) for it in files}
         return sum_over({**rows, "it": words_in(self.text), "file": words_of(f"{ROOT}/{self.file}")})[:16]
 

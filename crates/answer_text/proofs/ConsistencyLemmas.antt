@@ -7,9 +7,10 @@ use Rattle.sat_rules.proofs.Chains.{negate-negate, negate-other}
 use Rattle.answer_text.specs.declared.spot.Spot.{Spot}
 use Rattle.answer_text.specs.declared.spot.After.{After}
 use Rattle.answer_text.specs.declared.spot.After.TheVariants.{Goes, Gives, Stops}
-use Rattle.answer_text.specs.Answers.{Lists, Faulty, Step, On, Off, taken, step, at_end, finish, outcome_at}
+use Rattle.answer_text.specs.automaton.Answers.{Step, On, Off, taken, step, at_end, finish, outcome_at}
+use Rattle.answer_text.specs.Answers.{Lists, Faulty}
 use Rattle.answer_text.specs.Literals.{IsConsistent, listed}
-use Rattle.answer_text.specs.Places.{after}
+use Rattle.answer_text.specs.automaton.Places.{after}
 
 -- a literal more whose negation is not in the set
 consistent_more : (s : ℕ → Bool) (l : ℕ) → IsConsistent s → s (negate l) ≡ false → IsConsistent (add_lit l s)

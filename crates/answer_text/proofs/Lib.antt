@@ -1,2 +1,5 @@
 pub mod ConsistencyLemmas
 pub mod ReadingLemmas
+pub mod Words
+pub mod Statuses
+pub mod Lines

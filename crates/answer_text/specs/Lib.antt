@@ -1,6 +1,6 @@
+pub mod automaton
 pub mod Answers
 pub mod Literals
 pub mod Numbers
-pub mod Places
 pub mod Reading
 pub mod Rows

@@ -9,6 +9,6 @@ mod reader;
 mod spot;
 
 pub use fault::{AnswerFault, AnswerKind};
-pub use laws::{answer_rows, answers_are_consistent};
+pub use laws::{answer_rows, answers_are_consistent, bytes_are_lines};
 pub use literals::Literals;
 pub use reader::read_answer;

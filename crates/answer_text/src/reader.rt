@@ -1,8 +1,9 @@
 //! Answers from a reader's bytes.
 ghost use Rattle.std.specs.Prelude.{◌≡◌, ℕ, List, [], IfErr, IfOk};
-ghost use Rattle.answer_text.specs.Answers.{at_end, finish, step};
+ghost use Rattle.answer_text.specs.automaton.Answers.{at_end, finish, step};
 ghost use Rattle.answer_text.specs.Literals.{HasThe};
-ghost use Rattle.answer_text.specs.Reading.{Ends, FailsBy, IsTaken, ListsThe};
+ghost use Rattle.answer_text.specs.automaton.Taking.{Ends, IsTaken};
+ghost use Rattle.answer_text.specs.Reading.{FailsBy, ListsThe};
 
 use crate::fault::{AnswerFault, AnswerKind};
 use crate::literals::Literals;

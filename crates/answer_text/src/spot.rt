@@ -1,6 +1,6 @@
 //! The state of the parser of answers, and what a byte does in it.
 ghost use Rattle.std.specs.Prelude.{◌≡◌, ◌≤◌, length};
-ghost use Rattle.answer_text.specs.Places.{after, before_word, between, first_digit, in_digits, in_word, is_spelled, line_start, moved, next_line, number_read, passed, satisfiable_read, start, status_read, text_start, turns, word_of};
+ghost use Rattle.answer_text.specs.automaton.Places.{after, before_word, between, first_digit, in_digits, in_word, is_spelled, line_start, moved, next_line, number_read, passed, satisfiable_read, start, status_read, text_start, turns, word_of};
 
 use crate::fault::AnswerKind;
 use crate::number::lit_said;
@@ -90,7 +90,7 @@ impl Spot {
 
     /// Returns what the next byte does: the state after it, a literal that it ends, or a fault.
     #[inline(always)]
-    #[tactic(auto, unfolding(crate::specs::Places::after))]
+    #[tactic(auto, unfolding(crate::specs::automaton::Places::after))]
     pub(crate) fn after(self, byte: u8) -> After
         ensures { result ≡ after self byte }
     {

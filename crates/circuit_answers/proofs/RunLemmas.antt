@@ -4,8 +4,8 @@ use Rattle.std.proofs.lemmas.Bool.{false≢true}
 use Rattle.std.proofs.lemmas.List.{get_or-append-add, length-append}
 use Rattle.sat_rules.specs.Clauses.{lit_true}
 use Rattle.circuit_rules.specs.Checks.{any_output}
-use Rattle.circuit_rules.specs.Circuits.{simulated}
-use Rattle.circuit_rules.specs.Safety.{GoesOn, IsReset, IsSafe, Latch, Machine, Starts, lits_true}
+use Rattle.circuit_rules.specs.Circuits.{Latch, simulated}
+use Rattle.circuit_rules.specs.Safety.{GoesOn, IsReset, IsSafe, Machine, Starts, lits_true}
 use Rattle.circuit_text.specs.declared.circuit.Circuit as read
 use Rattle.circuit_clauses.specs.Machines.{machine_in}
 use Rattle.stimulus_text.specs.Stimuli.{inputs_in}

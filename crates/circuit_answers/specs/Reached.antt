@@ -5,8 +5,8 @@
 use Rattle.std.specs.Prelude.{◌≡◌, ℕ, zero, suc, ◌≤◌, Bool, true, false, not, ◌&&◌, ◌==◌, if◌then◌else◌, List, [], ◌∷◌, ◌++◌, map, codes, Option, Some, None, slice_index_or}
 use Rattle.sat_rules.specs.Clauses.{lit_true}
 use Rattle.circuit_rules.specs.Checks.{any_output}
-use Rattle.circuit_rules.specs.Circuits.{simulated}
-use Rattle.circuit_rules.specs.Safety.{IsRun, IsSafe, Latch, Machine, lits_true}
+use Rattle.circuit_rules.specs.Circuits.{Latch, simulated}
+use Rattle.circuit_rules.specs.Safety.{IsRun, IsSafe, Machine, lits_true}
 use Rattle.circuit_text.specs.declared.circuit.Circuit as read
 use Rattle.circuit_clauses.specs.Machines.{machine_in}
 use Rattle.stimulus_text.specs.Stimuli.{inputs_in}

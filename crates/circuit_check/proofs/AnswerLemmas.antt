@@ -7,7 +7,6 @@ use Rattle.answer_text.specs.declared.literals.Literals.{Literals}
 use Rattle.answer_text.specs.Literals.{has_lit, listed}
 use Rattle.answer_text.specs.Reading.{ListsThe}
 use Rattle.circuit_text.specs.declared.circuit.Circuit as read
-use Rattle.circuit_text.specs.Aigers.{Says}
 use Rattle.circuit_text.specs.Circuits.{circuit_of}
 use Rattle.circuit_answers.specs.Answers.{IsDifferentJudged, IsPossibleJudged}
 use Rattle.circuit_answers.proofs.AnswerLemmas.{different_shown, possible_shown}
@@ -99,7 +98,7 @@ possible_text known answer said v old new e is h =
     let found = h.holds.holds in
     record {
       circuit = circuit_of c;
-      says = said_by known said (Says (circuit_of c)) e h.gates.says;
+      says = said_by known said c e h.gates.says;
       shape = h.gates.shape;
       possible = possible_shown (listed h.holds.lits) c v found.text found.judged is;
     }
@@ -112,8 +111,8 @@ different_text known known' answer said said' v old new e e' is h =
     record {
       circuit = circuit_of c;
       circuit' = circuit_of c';
-      says = said_by known said (Says (circuit_of c)) e h.gates.says;
-      says' = said_by known' said' (Says (circuit_of c')) e' h.holds.gates.says;
+      says = said_by known said c e h.gates.says;
+      says' = said_by known' said' c' e' h.holds.gates.says;
       shape = h.gates.shape;
       shape' = h.holds.gates.shape;
       inputs = found.judged.shapes.inputs;

@@ -8,10 +8,10 @@ use Rattle.circuit_rules.specs.Safety.{IsSafe, bad_clauses, first_clauses, stay_
 use Rattle.circuit_rules.proofs.Simulation.{never_is_shown}
 use Rattle.circuit_rules.proofs.Joined.{same_is_shown}
 use Rattle.circuit_rules.proofs.Invariants.{safe_is_shown}
-use Rattle.circuit_text.specs.Aigers.{Outcome, Says, outcome_of}
 use Rattle.circuit_text.specs.declared.circuit.Circuit as read
 use Rattle.circuit_text.specs.Circuits.{circuit_of}
-use Rattle.circuit_text.specs.Reading.{IsOutcome}
+use Rattle.circuit_text.specs.Reading.{IsRead}
+use Rattle.circuit_text.specs.Written.{IsAiger}
 use Rattle.circuit_clauses.specs.declared.induction.Induction.{Induction}
 use Rattle.circuit_clauses.specs.declared.induction.Part.TheVariants.{Initial, Step, Bad}
 use Rattle.circuit_clauses.specs.Formulas.{gates_in}
@@ -21,8 +21,8 @@ use Rattle.verdicts.specs.declared.verdict.Verdict.TheVariants.{Verified}
 use Rattle.circuit_check.specs.declared.fault.CircuitFault.{CircuitFault}
 use Rattle.circuit_check.specs.Claims.{HaveWritten, IsAppended, IsInductionText, IsNeverFormula, IsNeverText, IsSafeText, IsSameFormula, IsSameText, RefutesAll}
 
-pub said_by : (known : Option (List ℕ)) (said : List ℕ) (o : Outcome) → known ≡ Some said → IsOutcome known o → outcome_of said ≡ o
-said_by known said o e h = rw e at h
+pub said_by : (known : Option (List ℕ)) (said : List ℕ) (c : read.Circuit) → known ≡ Some said → IsRead known c → IsAiger said (circuit_of c)
+said_by known said c e h = rw e at h
 
 refuted_as : (formula cs : List (List ℕ)) → formula ≡ cs → IsRefuted formula → IsRefuted cs
 refuted_as formula cs e h = rw e at h
@@ -32,7 +32,7 @@ never_text known said formula e h refuted =
     let c = h.circuit in
     record {
       circuit = circuit_of c;
-      says = said_by known said (Says (circuit_of c)) e h.says;
+      says = said_by known said c e h.says;
       shape = h.shape;
       never = never_is_shown c.inputs (gates_in c) c.outputs.items h.has.ordered (refuted_as formula (never_clauses (gates_in c) c.outputs.items) h.has.is refuted);
     }
@@ -44,8 +44,8 @@ same_text known known' said said' formula e e' h refuted =
     record {
       circuit = circuit_of c;
       circuit' = circuit_of c';
-      says = said_by known said (Says (circuit_of c)) e h.says;
-      says' = said_by known' said' (Says (circuit_of c')) e' h.says';
+      says = said_by known said c e h.says;
+      says' = said_by known' said' c' e' h.says';
       shape = h.shape;
       shape' = h.shape';
       inputs = h.has.inputs;
@@ -80,7 +80,7 @@ safe_text known known' said i e h refuted =
     let c = h.circuit in
     record {
       circuit = circuit_of c;
-      says = said_by known said (Says (circuit_of c)) e h.says;
+      says = said_by known said c e h.says;
       safe = safe_machine c h.circuit' i h.is refuted;
     }
 

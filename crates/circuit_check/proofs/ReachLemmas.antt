@@ -2,7 +2,6 @@
 use Rattle.std.proofs.Common.{◌≡◌, ℕ, List, Option, Some, subst}
 use Rattle.whole_writes.specs.Beginnings.{AppendsBeginning}
 use Rattle.circuit_text.specs.declared.circuit.Circuit as read
-use Rattle.circuit_text.specs.Aigers.{Says}
 use Rattle.circuit_text.specs.Circuits.{circuit_of}
 use Rattle.circuit_text.specs.Reading.{IsRead}
 use Rattle.stimulus_text.specs.Reading as stimuli
@@ -21,7 +20,7 @@ pub reached_text : (known : Option (List ℕ)) (said : List ℕ) (c : read.Circu
     IsReachJudged c s reach → reach ≡ At step → IsReachedText said
 reached_text known said c s reach step e says judged is = record {
   circuit = circuit_of c;
-  says = said_by known said (Says (circuit_of c)) e says;
+  says = said_by known said c e says;
   reached = reached_shown c s reach step judged is;
 }
 

@@ -11,10 +11,10 @@ use Rattle.sat_output.specs.FormulaTexts.{formula_text}
 use Rattle.refutation_rules.specs.Cubes.{IsRefuted}
 use Rattle.circuit_rules.specs.Checks.{AreSame, IsNever}
 use Rattle.circuit_rules.specs.Safety.{IsSafe}
-use Rattle.circuit_text.specs.Aigers.{Says, outcome_of}
 use Rattle.circuit_text.specs.declared.circuit.Circuit as read
 use Rattle.circuit_text.specs.Circuits.{Circuit, circuit_of}
 use Rattle.circuit_text.specs.Reading.{IsRead}
+use Rattle.circuit_text.specs.Written.{IsAiger}
 use Rattle.circuit_answers.specs.Answers.{AreDifferent, IsPossible}
 use Rattle.circuit_answers.specs.Reached.{IsReached}
 use Rattle.circuit_clauses.specs.declared.induction.Induction.{Induction}
@@ -32,7 +32,7 @@ pub record IsCombinational (c : Circuit) : Type 0 where
 -- the text says such a circuit, no output of which is true, whatever the input
 pub record IsNeverText (text : List ℕ) : Type 0 where
   pub circuit : Circuit
-  pub says : outcome_of text ≡ Says circuit
+  pub says : IsAiger text circuit
   pub shape : IsCombinational circuit
   pub never : IsNever circuit.gates circuit.outputs
 
@@ -40,8 +40,8 @@ pub record IsNeverText (text : List ℕ) : Type 0 where
 pub record IsSameText (text text' : List ℕ) : Type 0 where
   pub circuit : Circuit
   pub circuit' : Circuit
-  pub says : outcome_of text ≡ Says circuit
-  pub says' : outcome_of text' ≡ Says circuit'
+  pub says : IsAiger text circuit
+  pub says' : IsAiger text' circuit'
   pub shape : IsCombinational circuit
   pub shape' : IsCombinational circuit'
   pub inputs : circuit.inputs ≡ circuit'.inputs
@@ -50,13 +50,13 @@ pub record IsSameText (text text' : List ℕ) : Type 0 where
 -- the text says a machine, no run of which makes a bad output true; all outputs are bad, where none is named
 pub record IsSafeText (text : List ℕ) : Type 0 where
   pub circuit : Circuit
-  pub says : outcome_of text ≡ Says circuit
+  pub says : IsAiger text circuit
   pub safe : IsSafe (machine_of circuit)
 
 -- the text says a circuit of gates and outputs alone, and some input makes an output true
 pub record IsPossibleText (text : List ℕ) : Type 0 where
   pub circuit : Circuit
-  pub says : outcome_of text ≡ Says circuit
+  pub says : IsAiger text circuit
   pub shape : IsCombinational circuit
   pub possible : IsPossible circuit.gates circuit.outputs
 
@@ -64,8 +64,8 @@ pub record IsPossibleText (text : List ℕ) : Type 0 where
 pub record AreDifferentText (text text' : List ℕ) : Type 0 where
   pub circuit : Circuit
   pub circuit' : Circuit
-  pub says : outcome_of text ≡ Says circuit
-  pub says' : outcome_of text' ≡ Says circuit'
+  pub says : IsAiger text circuit
+  pub says' : IsAiger text' circuit'
   pub shape : IsCombinational circuit
   pub shape' : IsCombinational circuit'
   pub inputs : circuit.inputs ≡ circuit'.inputs
@@ -75,7 +75,7 @@ pub record AreDifferentText (text text' : List ℕ) : Type 0 where
 -- the text says a machine, some run of which makes a bad output true; all outputs are bad, where none is named
 pub record IsReachedText (text : List ℕ) : Type 0 where
   pub circuit : Circuit
-  pub says : outcome_of text ≡ Says circuit
+  pub says : IsAiger text circuit
   pub reached : IsReached (machine_of circuit)
 
 -- ---- formulas

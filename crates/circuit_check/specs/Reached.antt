@@ -5,6 +5,7 @@
 use Rattle.std.specs.Prelude.{ℕ, List, Option, Result, Ok, Err, length}
 use Rattle.whole_writes.specs.Beginnings.{AppendsBeginning}
 use Rattle.circuit_text.specs.declared.circuit.Circuit as read
+use Rattle.circuit_text.specs.Faults as circuit_faults
 use Rattle.circuit_text.specs.Reading as circuits
 use Rattle.stimulus_text.specs.Reading as stimuli
 use Rattle.stimulus_text.specs.Reading.{StimulusFault}
@@ -37,7 +38,7 @@ pub record FailsStimulus (known known' : Option (List ℕ)) (fault : StimulusFau
 
 -- the fault of the machine, then that of the stimulus, then that of the run, then that of the write
 abbrev pub FailsRun : Option (List ℕ) → Option (List ℕ) → ReachFault → Type 0
-FailsRun known known' (faults.Unread fault) = circuits.FailsBy known fault
+FailsRun known known' (faults.Unread fault) = circuit_faults.FailsBy known fault
 FailsRun known known' (faults.Stimulus fault) = FailsStimulus known known' fault
 FailsRun known known' (faults.NotRun fault) = OfReach known known' (λ c s. IsCause (reach_cause c) fault)
 FailsRun known known' (faults.Write cause) = OfReach known known' (λ c s. (reach : Reach) × IsReachJudged c s reach)

@@ -6,7 +6,8 @@
 use Rattle.std.specs.Prelude.{◌⊎◌, ℕ, List, Option}
 use Rattle.circuit_text.specs.declared.circuit.Circuit as read
 use Rattle.circuit_text.specs.Circuits.{circuit_of}
-use Rattle.circuit_text.specs.Reading.{FailsBy, IsRead}
+use Rattle.circuit_text.specs.Faults.{FailsBy}
+use Rattle.circuit_text.specs.Reading.{IsRead}
 use Rattle.circuit_clauses.specs.Causes.{IsCause, never_cause, safe_cause, same_cause}
 use Rattle.circuit_check.specs.Claims.{IsCombinational}
 use Rattle.circuit_check.specs.declared.fault.CircuitFault.{CircuitFault}

@@ -2,8 +2,8 @@
 use Rattle.std.proofs.Common.{◌≡◌, ℕ, ◌+◌, ◌<◌, List, [], ◌∷◌, ◌++◌, map, length, take, get_or, refl, ap, sym, ◌∙◌, append_assoc}
 use Rattle.std.proofs.lemmas.List.{append-nil, map-append, take_more}
 use Rattle.refutation_rules.specs.Cubes.{units_of}
-use Rattle.circuit_rules.specs.Circuits.{Gate, lit_of}
-use Rattle.circuit_rules.specs.Safety.{Latch, reset_clause, reset_clauses, step_clauses}
+use Rattle.circuit_rules.specs.Circuits.{Gate, Latch, lit_of}
+use Rattle.circuit_rules.specs.Safety.{reset_clause, reset_clauses, step_clauses}
 use Rattle.sat_rules.specs.Clauses.{negate}
 use Rattle.circuit_clauses.specs.Machines.{bad_of}
 

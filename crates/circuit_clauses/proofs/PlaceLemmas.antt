@@ -4,9 +4,9 @@ use Rattle.std.specs.List.{list_all}
 use Rattle.std.proofs.lemmas.Bool.{and_from, and_parts, cases_Bool, false≢true, le-leb, leb-true, lt-ltb, ltb-true}
 use Rattle.std.proofs.lemmas.List.Folds.{list_all-map, list_all_at}
 use Rattle.sat_rules.specs.Clauses.{var_of}
-use Rattle.circuit_rules.specs.Circuits.{Gate, are_ordered}
+use Rattle.circuit_rules.specs.Circuits.{Gate, Latch, are_ordered}
 use Rattle.circuit_rules.specs.Checks.{gates_below, lits_below, moved, moved_gate}
-use Rattle.circuit_rules.specs.Safety.{Latch, latches_below}
+use Rattle.circuit_rules.specs.Safety.{latches_below}
 use Rattle.circuit_rules.proofs.Simulation.{in_order}
 
 -- ---- tests of lists

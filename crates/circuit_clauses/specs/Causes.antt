@@ -7,9 +7,9 @@
 use Rattle.std.specs.Prelude.{◌≡◌, ◌⊎◌, ℕ, suc, ◌+◌, ◌^◌, Bool, true, if◌then◌else◌, ◌&&◌, ◌==◌, nat_lt, List, Option, Some, None, length}
 use Rattle.std.specs.List.{list_all}
 use Rattle.sat_rules.specs.Clauses.{var_of}
-use Rattle.circuit_rules.specs.Circuits.{Gate, are_ordered}
+use Rattle.circuit_rules.specs.Circuits.{Gate, Latch, are_ordered}
 use Rattle.circuit_rules.specs.Checks.{gates_below, lits_below}
-use Rattle.circuit_rules.specs.Safety.{Latch, latches_below}
+use Rattle.circuit_rules.specs.Safety.{latches_below}
 use Rattle.circuit_text.specs.declared.circuit.Circuit.{Circuit}
 use Rattle.circuit_clauses.specs.declared.fault.ClausesFault.{ClausesFault}
 use Rattle.circuit_clauses.specs.declared.fault.ClausesFault.TheVariants.{Unordered, OtherInputs, OtherOutputs, OutOfRange, NothingBad, NoInvariant, OtherStates, TooLarge, OutOfMemory}

@@ -5,9 +5,9 @@
 use Rattle.std.specs.Prelude.{◌≡◌, ℕ, suc, ◌+◌, ◌*◌, Bool, ◌&&◌, nat_lt, List, [], ◌∷◌, ◌++◌, map, length}
 use Rattle.sat_rules.specs.Clauses.{negate, var_of}
 use Rattle.refutation_rules.specs.Cubes.{units_of}
-use Rattle.circuit_rules.specs.Circuits.{Gate, gates_clauses}
+use Rattle.circuit_rules.specs.Circuits.{Gate, Latch, gates_clauses}
 use Rattle.circuit_rules.specs.Checks.{moved, moved_gate}
-use Rattle.circuit_rules.specs.Safety.{HaveSteps, Latch, Machine, bad_clauses, first_clauses, stay_clauses, step_clauses}
+use Rattle.circuit_rules.specs.Safety.{HaveSteps, Machine, bad_clauses, first_clauses, stay_clauses, step_clauses}
 use Rattle.circuit_text.specs.declared.circuit.Circuit as read
 use Rattle.circuit_text.specs.Circuits.{Circuit, circuit_of, gate_of}
 use Rattle.circuit_clauses.specs.declared.counts.Counts.{Counts}

@@ -5,8 +5,8 @@
 use Rattle.std.specs.Prelude.{◌≡◌, ℕ, suc, ◌<◌, Bool, true, false, not, ◌&&◌, List, [], ◌∷◌, length, take, drop, slice_index, Option, Some, None, nat_lt, ◌==◌, if◌then◌else◌}
 use Rattle.std.specs.Str.{bytes_eq}
 use Rattle.sat_formula.specs.Bytes.{is_lf}
-use Rattle.circuit_text.specs.Aigers.{Outcome, Says, Faulty, outcome_of}
-use Rattle.circuit_text.specs.Reading.{FailsBy}
+use Rattle.circuit_text.specs.automaton.Aigers.{Outcome, Says, Faulty, outcome_of}
+use Rattle.circuit_text.specs.Faults.{FailsBy}
 use Rattle.circuit_names.specs.declared.difference.Difference.{Difference}
 use Rattle.circuit_names.specs.declared.fault.NamesFault.{NamesFault}
 use Rattle.circuit_names.specs.declared.fault.NamesFault.TheVariants.{Unread, OtherUnread}

@@ -2,7 +2,7 @@
 ghost use Rattle.std.specs.Prelude.{◌≡◌, ◌≤◌, length, Some, IfErr, IfOk, IfSome, IsNone};
 ghost use Rattle.circuit_names.specs.Names.{AreAlike, AreAlikeIn, AreNames, IsFault, IsFirst, IsFirstIn, differ, line_length, name_at, name_in};
 ghost use Rattle.circuit_names.specs.Starts.{starts_for, starts_in};
-ghost use Rattle.circuit_text.specs.Reading.{FailsBy};
+ghost use Rattle.circuit_text.specs.Faults.{FailsBy};
 
 use crate::difference::Difference;
 use crate::fault::NamesFault;

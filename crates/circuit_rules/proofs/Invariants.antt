@@ -5,9 +5,9 @@ use Rattle.std.proofs.lemmas.List.Folds.{list_all-append}
 use Rattle.sat_rules.specs.Clauses.{all_true, clause_true, is_negative, lit_true, negate, var_of}
 use Rattle.sat_rules.proofs.Chains.{lit_true-negate}
 use Rattle.refutation_rules.specs.Cubes.{IsRefuted, units_of}
-use Rattle.circuit_rules.specs.Circuits.{Gate, are_ordered, circuit_clauses, gate_value, gates_clauses, lit_of, run_gates, simulated, with_value}
+use Rattle.circuit_rules.specs.Circuits.{Gate, Latch, are_ordered, circuit_clauses, gate_value, gates_clauses, lit_of, run_gates, simulated, with_value}
 use Rattle.circuit_rules.specs.Checks.{any_output, gates_below, lits_below, moved, moved_gate}
-use Rattle.circuit_rules.specs.Safety.{GoesOn, HaveSteps, IsReset, IsRun, Latch, Machine, SafeIsShown, Starts, first_clauses, latches_below, lits_true, reset_clause, reset_clauses, stay_clauses, step_clauses}
+use Rattle.circuit_rules.specs.Safety.{GoesOn, HaveSteps, IsReset, IsRun, Machine, SafeIsShown, Starts, first_clauses, latches_below, lits_true, reset_clause, reset_clauses, stay_clauses, step_clauses}
 use Rattle.circuit_rules.proofs.Simulation.{circuits_are_clauses, kept, positive, run_fits}
 use Rattle.circuit_rules.proofs.Joined.{first_met, in_first, in_second, joined, moved_lit, second_met}
 

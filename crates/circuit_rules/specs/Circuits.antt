@@ -3,7 +3,7 @@
 --     simulated input gates      the values of all variables, from those of the inputs, gate after gate
 --     are_ordered n gates      each gate has a variable of its own, after those that it reads
 --     circuit_clauses gates      clauses that say the same
-use Rattle.std.specs.Prelude.{◌≡◌, ℕ, suc, ◌*◌, Bool, true, false, if◌then◌else◌, ◌&&◌, ◌==◌, nat_lt, nat_le, List, [], ◌∷◌, ◌++◌}
+use Rattle.std.specs.Prelude.{◌≡◌, ℕ, suc, ◌*◌, Bool, true, false, if◌then◌else◌, ◌&&◌, ◌==◌, nat_lt, nat_le, List, [], ◌∷◌, ◌++◌, Option}
 use Rattle.sat_rules.specs.Clauses.{all_true, lit_true, negate, var_of}
 
 -- a variable, and the two literals of which it is the conjunction
@@ -11,6 +11,12 @@ pub record Gate : Type 0 where
   pub var : ℕ
   pub left : ℕ
   pub right : ℕ
+
+-- a latch: a variable, the literal whose value it takes at the next step, and its first value, unless that is free
+pub record Latch : Type 0 where
+  pub var : ℕ
+  pub next : ℕ
+  pub reset : Option Bool
 
 -- the assignment with another value of one variable
 abbrev pub with_value : (ℕ → Bool) → ℕ → Bool → ℕ → Bool

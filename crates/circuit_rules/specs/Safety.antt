@@ -6,14 +6,8 @@ use Rattle.std.specs.Prelude.{◌≡◌, ℕ, suc, ◌+◌, ◌≤◌, Bool, tru
 use Rattle.std.specs.List.{list_all}
 use Rattle.sat_rules.specs.Clauses.{lit_true, negate, var_of}
 use Rattle.refutation_rules.specs.Cubes.{IsRefuted, units_of}
-use Rattle.circuit_rules.specs.Circuits.{Gate, are_ordered, circuit_clauses, gates_clauses, lit_of, simulated}
+use Rattle.circuit_rules.specs.Circuits.{Gate, Latch, are_ordered, circuit_clauses, gates_clauses, lit_of, simulated}
 use Rattle.circuit_rules.specs.Checks.{any_output, gates_below, lits_below, moved, moved_gate}
-
--- a variable, the literal whose value it takes at the next step, and its first value, unless that is free
-pub record Latch : Type 0 where
-  pub var : ℕ
-  pub next : ℕ
-  pub reset : Option Bool
 
 -- a circuit with latches; literals that are assumed to be true at each step; and bad outputs
 pub record Machine : Type 0 where

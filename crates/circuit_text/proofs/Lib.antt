@@ -1,1 +1,14 @@
 pub mod ReadingLemmas
+pub mod WrittenNumbers
+pub mod WrittenHeaders
+pub mod WrittenHeadersBack
+pub mod WrittenItems
+pub mod WrittenItemsBack
+pub mod WrittenRests
+pub mod WrittenRestsBack
+pub mod WrittenWhole
+pub mod WrittenWholeBack
+pub mod WrittenTextForm
+pub mod WrittenTextFormBack
+pub mod WrittenBoth
+pub mod WrittenBytes

@@ -1,7 +1,8 @@
-pub mod Aigers
+pub mod automaton
 pub mod Circuits
-pub mod Headers
-pub mod Numbers
-pub mod Places
+pub mod Faults
+pub mod Laws
 pub mod Reading
 pub mod Rows
+pub mod Writing
+pub mod Written

@@ -2,7 +2,7 @@
 use Rattle.std.specs.Prelude.{◌≡◌, [], ◌∷◌, ◌++◌, codes, Some, None, true, false}
 use Rattle.circuit_text.specs.declared.fault.AigerKind.TheVariants as kinds
 use Rattle.circuit_text.specs.declared.fault.Location.TheVariants.{Line, Gate}
-use Rattle.circuit_text.specs.Aigers.{Says, Faulty, outcome_of}
+use Rattle.circuit_text.specs.automaton.Aigers.{Says, Faulty, outcome_of}
 
 -- one fact a row
 pub record AigerRows : Type 0 where

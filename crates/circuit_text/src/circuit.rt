@@ -1,6 +1,7 @@
 //! Circuits as they are read.
 ghost use Rattle.std.specs.Prelude.{◌≡◌, OnOk};
-ghost use Rattle.circuit_text.specs.Circuits.{circuit_of, no_circuit, with_item};
+ghost use Rattle.circuit_text.specs.automaton.Items.{no_circuit, with_item};
+ghost use Rattle.circuit_text.specs.Circuits.{circuit_of};
 
 use sat_formula::Lit;
 use std::alloc::{AllocError, Global};

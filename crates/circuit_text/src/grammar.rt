@@ -1,7 +1,7 @@
 //! The grammar of a circuit, a byte after the other.
 ghost use Rattle.std.specs.Prelude.{◌≡◌};
-ghost use Rattle.circuit_text.specs.Headers.{reset_said};
-ghost use Rattle.circuit_text.specs.Places.{after, after_c, first_word, gate_read, gate_said, header_read, in_header, in_left, in_line, in_name, in_position, in_reset, in_right, in_word, item_read, latch_read, latch_said, left_read, left_said, line_lit, line_start, lit_less, lit_read, next_field, reset_read, right_read, symbol_start, with_header};
+ghost use Rattle.circuit_text.specs.automaton.Headers.{reset_said};
+ghost use Rattle.circuit_text.specs.automaton.Places.{after, after_c, first_word, gate_read, gate_said, header_read, in_header, in_left, in_line, in_name, in_position, in_reset, in_right, in_word, item_read, latch_read, latch_said, left_read, left_said, line_lit, line_start, lit_less, lit_read, next_field, reset_read, right_read, symbol_start, with_header};
 
 use crate::circuit::{Gate, Item, Latch};
 use crate::fault::AigerKind;
@@ -13,7 +13,7 @@ use sat_formula::Lit;
 impl Spot {
     /// What the next byte does.
     #[inline(always)]
-    #[tactic(auto, unfolding(crate::specs::Places::after))]
+    #[tactic(auto, unfolding(crate::specs::automaton::Places::after))]
     pub(crate) fn after(self, byte: u8) -> After
         ensures { result ≡ after self byte }
     {

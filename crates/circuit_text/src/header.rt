@@ -1,6 +1,6 @@
 //! Headers of circuits.
 ghost use Rattle.std.specs.Prelude.{◌≡◌};
-ghost use Rattle.circuit_text.specs.Headers.{as_text, field_after, gate_place, header_with, latch_place, lit_said, may_end, no_header, place_at, place_of, symbols_of, var_said, with_gates};
+ghost use Rattle.circuit_text.specs.automaton.Headers.{as_text, field_after, gate_place, header_with, latch_place, lit_said, may_end, no_header, place_at, place_of, symbols_of, var_said, with_gates};
 
 use crate::fault::AigerKind;
 use crate::spot::{Line, Own, Place};

@@ -16,5 +16,5 @@ mod text_form;
 
 pub use circuit::{Circuit, Gate, Latch};
 pub use fault::{AigerFault, AigerKind, Location};
-pub use laws::aiger_rows;
+pub use laws::{aiger_rows, has_one_circuit, read_is_written, text_is_read, written_is_read};
 pub use reader::read_circuit;

@@ -1,6 +1,6 @@
 //! Numbers: digits in lines, and the binary numbers of gates.
 ghost use Rattle.std.specs.Prelude.{◌≡◌};
-ghost use Rattle.circuit_text.specs.Numbers.{digits_after, number_after};
+ghost use Rattle.circuit_text.specs.automaton.Numbers.{digits_after, number_after};
 
 use sat_formula::bytes::{is_digit, value_after};
 

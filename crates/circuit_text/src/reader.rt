@@ -1,8 +1,10 @@
 //! Circuits from a reader's bytes.
 ghost use Rattle.std.specs.Prelude.{IfErr, IfOk};
-ghost use Rattle.circuit_text.specs.Aigers.{at_end, step};
+ghost use Rattle.circuit_text.specs.automaton.Aigers.{at_end, step};
+ghost use Rattle.circuit_text.specs.automaton.Taking.{Ends, IsTaken};
 ghost use Rattle.circuit_text.specs.Circuits.{circuit_of};
-ghost use Rattle.circuit_text.specs.Reading.{Ends, FailsBy, IsRead, IsTaken};
+ghost use Rattle.circuit_text.specs.Faults.{FailsBy};
+ghost use Rattle.circuit_text.specs.Reading.{IsRead};
 
 use crate::circuit::Circuit;
 use crate::fault::{AigerFault, AigerKind, Location};

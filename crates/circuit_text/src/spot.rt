@@ -1,6 +1,6 @@
 //! Where the reading of a circuit is.
 ghost use Rattle.std.specs.Prelude.{◌≡◌};
-ghost use Rattle.circuit_text.specs.Places.{is_done, location, moved, next_item, next_line, start};
+ghost use Rattle.circuit_text.specs.automaton.Places.{is_done, location, moved, next_item, next_line, start};
 
 use crate::circuit::Item;
 use crate::fault::{AigerKind, Location};

@@ -1,6 +1,6 @@
 //! The lines of inputs, latches and gates in the text form.
 ghost use Rattle.std.specs.Prelude.{◌≡◌};
-ghost use Rattle.circuit_text.specs.Places.{first_read, first_said, in_first, in_own, in_second, own_read, own_said, second_read, second_said};
+ghost use Rattle.circuit_text.specs.automaton.Places.{first_read, first_said, in_first, in_own, in_second, own_read, own_said, second_read, second_said};
 
 use crate::circuit::{Gate, Item};
 use crate::fault::AigerKind;

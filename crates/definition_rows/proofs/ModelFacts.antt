@@ -10,8 +10,7 @@ use Rattle.sat_formula.specs.Outcome.{Ended}
 use Rattle.sat_formula.specs.Outcome as outcomes
 use Rattle.answer_text.specs.declared.fault.AnswerKind.{AnswerKind}
 use Rattle.answer_text.specs.Answers as answers
-use Rattle.answer_text.specs.Answers.{outcome_at}
-use Rattle.answer_text.specs.Places.{after}
+use Rattle.answer_text.specs.Answers.{answer_from, numbers_from}
 use Rattle.answer_text.specs.Literals.{listed}
 use Rattle.model_check.specs.Models.{IsModel, IsSatisfiedBy}
 use Rattle.model_check.specs.Wholeness.{cut_of}
@@ -69,7 +68,7 @@ no_list : (text answer : List ℕ) (line : ℕ) (kind : AnswerKind) → answers.
 no_list text answer line kind l s = let e = sym l ∙ s.lists in absurd cc
 
 pub model_rows : ModelRows
-unfolding tokens_from lines_from outcome_at after notes_at
+unfolding tokens_from lines_from answer_from numbers_from notes_at
 model_rows = record {
   model = model_of_one;
   open_clause = open_clause;

@@ -1,7 +1,6 @@
-use Rattle.answer_text.specs.Answers.{outcome_at}
-use Rattle.answer_text.specs.Places.{after}
+use Rattle.answer_text.specs.Answers.{answer_from, numbers_from}
 use Rattle.answer_text.proofs.laws.answer_rows.Goals as goal
 
 pub returns : goal.returns
-unfolding outcome_at after
+unfolding answer_from numbers_from
 returns c = assumption

@@ -1,5 +1,5 @@
 use Rattle.sat_formula.proofs.Exits.{exits}
-use Rattle.answer_text.specs.Reading.{Ends}
+use Rattle.answer_text.specs.automaton.Taking.{Ends}
 use Rattle.answer_text.proofs.ReadingLemmas.{ends_off}
 use Rattle.answer_text.proofs.reader.end.Goals as goal
 

@@ -5,7 +5,7 @@ use Rattle.sat_formula.proofs.Exits.{exits}
 use Rattle.sat_formula.proofs.Readings.{leads_nil}
 use Rattle.sat_formula.proofs.Sources.{room_falls, room_less}
 use Rattle.answer_text.specs.Reading.{FailsBy}
-use Rattle.answer_text.specs.Places.{after}
+use Rattle.answer_text.specs.automaton.Places.{after}
 use Rattle.answer_text.proofs.ConsistencyLemmas.{taken_consistent}
 use Rattle.answer_text.proofs.ReadingLemmas.{byte_on, ends_ill, ends_well, fails_taken}
 use Rattle.answer_text.proofs.reader.read_answer.Goals as goal

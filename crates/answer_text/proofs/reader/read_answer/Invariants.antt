@@ -1,7 +1,7 @@
 use Rattle.std.proofs.Common.{◌≡◌, ℕ, Some}
 use Rattle.std.specs.Prelude.{unwrap_or}
 use Rattle.sat_formula.specs.Source.{room_of, unread}
-use Rattle.answer_text.specs.Reading.{HasRead}
+use Rattle.answer_text.specs.automaton.Taking.{HasRead}
 use Rattle.answer_text.proofs.reader.read_answer.Given as goal
 
 abbrev pub invariant-bytes : goal.invariant-bytes

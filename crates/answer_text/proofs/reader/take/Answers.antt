@@ -1,6 +1,6 @@
 use Rattle.std.proofs.Common.{◌≡◌, false, ap, sym, ◌∙◌, [], ◌∷◌, ◌++◌}
 use Rattle.sat_rules.specs.Clauses.{has, negate}
-use Rattle.answer_text.specs.Answers.{taken}
+use Rattle.answer_text.specs.automaton.Answers.{taken}
 use Rattle.answer_text.proofs.reader.take.Goals as goal
 
 pub returns-in-Goes : goal.returns-in-Goes

@@ -1,6 +1,7 @@
 use Rattle.std.proofs.Common.{◌+◌, ◌^◌, map, nat_lt}
 use Rattle.std.proofs.lemmas.Bool.{ltb-true}
-use Rattle.circuit_rules.specs.Safety.{Latch, step_clauses}
+use Rattle.circuit_rules.specs.Circuits.{Latch}
+use Rattle.circuit_rules.specs.Safety.{step_clauses}
 use Rattle.circuit_text.specs.Circuits.{latch_of}
 use Rattle.circuit_clauses.specs.Machines.{latch_clauses}
 use Rattle.circuit_clauses.proofs.MachineLemmas.{one_more, steps_last}

@@ -2,7 +2,7 @@ use Rattle.std.proofs.Common.{◌≡◌, ℕ, Some}
 use Rattle.std.specs.Prelude.{unwrap_or}
 use Rattle.sat_formula.specs.Readings.{Leads}
 use Rattle.sat_formula.specs.Source.{room_of, unread}
-use Rattle.circuit_text.specs.Aigers.{outcome_at, outcome_of}
+use Rattle.circuit_text.specs.automaton.Aigers.{outcome_at, outcome_of}
 use Rattle.circuit_text.specs.Circuits.{circuit_of}
 use Rattle.circuit_text.proofs.reader.read_circuit.Given as goal
 

@@ -28,8 +28,8 @@ use Rattle.circuit_text.specs.declared.spot.Place.TheVariants.{Word, Head, Line,
 use Rattle.circuit_text.specs.declared.spot.Spot.{Spot}
 use Rattle.circuit_text.specs.declared.spot.After.{After}
 use Rattle.circuit_text.specs.declared.spot.After.TheVariants.{Next, Gives, Stops}
-use Rattle.circuit_text.specs.Headers.{as_text, field_after, header_with, lit_said, may_end, no_header, place_at, reset_said, symbols_of, var_said}
-use Rattle.circuit_text.specs.Numbers.{digits_after, number_after}
+use Rattle.circuit_text.specs.automaton.Headers.{as_text, field_after, header_with, lit_said, may_end, no_header, place_at, reset_said, symbols_of, var_said}
+use Rattle.circuit_text.specs.automaton.Numbers.{digits_after, number_after}
 
 -- the space, the only blank
 abbrev pub is_space : ℕ → Bool

@@ -7,8 +7,9 @@ use Rattle.circuit_text.specs.declared.fault.Location.{Location}
 use Rattle.circuit_text.specs.declared.spot.Spot.{Spot}
 use Rattle.circuit_text.specs.declared.spot.After.{After}
 use Rattle.circuit_text.specs.declared.spot.After.TheVariants.{Next, Gives, Stops}
-use Rattle.circuit_text.specs.Circuits.{Circuit, no_circuit, with_item}
-use Rattle.circuit_text.specs.Places.{after, is_done, location, start}
+use Rattle.circuit_text.specs.automaton.Items.{no_circuit, with_item}
+use Rattle.circuit_text.specs.Circuits.{Circuit}
+use Rattle.circuit_text.specs.automaton.Places.{after, is_done, location, start}
 
 -- the text says a circuit, or has this fault
 pub data Outcome : Type 0 where
