@@ -1,8 +1,8 @@
 #!/usr/bin/env bash
 # `dist/`: its files have the sums that its PROVED says; it is of these sources, and linked as `rt` links it gives the programs that are
-# built here, byte for byte; a C compiler builds it where there is no toolchain, its programs verify and refuse, and README.md has their
+# built here, byte for byte; a C compiler builds it where there is no toolchain, its programs verify and refuse, and FORMATS.md has their
 # calls. In a root of its own that has a C compiler, python3 and a solver, README's installation runs word for word, and then the commands of
-# README.md and docs/USING.md. A folder that was changed, or is of an older commit, is refused.
+# README.md, docs/USING.md and docs/PORT.md. A folder that was changed, or is of an older commit, is refused.
 #
 #   tests/dist.sh [DIST]    with another folder that tools/dist.sh made in the place of `dist/`
 #
@@ -204,7 +204,7 @@ END
 printf '#!/bin/sh\nprintf "1 0\\n0\\n" > "$2"\nexit 20\n' > "$room/files/solver"
 chmod +x "$room/files/solver"
 
-# In a path that has `cc` and `make`; then each program says its call as README.md has it, its version and its commit, and the scripts find
+# In a path that has `cc` and `make`; then each program says its call as FORMATS.md has it, its version and its commit, and the scripts find
 # the programs where they are built.
 case_build() {
   only_with make readelf
@@ -219,7 +219,7 @@ case_build() {
     same "the logic of $name" "$(sed -n "s/^$name  *\([0-9a-f]*\) [0-9a-f]*$/\1/p" "$dist/PROVED")" \
       "$(readelf -p .comment "$room/dist/$name" | sed -n 's/.*rattle logic=//p')"
     usage=$("$room/dist/$name" --help | head -n 1)
-    grep -qF "| \`${usage#usage: }\` |" "$top/README.md" || fault "README.md has no program ${usage#usage: }"
+    grep -qxF -- "- \`${usage#usage: }\`" "$top/docs/reference/FORMATS.md" || fault "FORMATS.md has no program ${usage#usage: }"
     same "$name --version" "$name $version (commit ${commit:0:11})" "$("$room/dist/$name" --version)"
   done
   cd "$room/files"
@@ -271,7 +271,7 @@ case_root() {
   same 'scripts and programs of one version' "${commit:0:11}" "$("${enter[@]}" bash -c 'for name in /home/.local/bin/*; do
       [ "${name##*/}" = verified ] || "$name" --version; done' | sed 's/.*(commit \(.*\))$/\1/' | sort -u)"
   same 'verdicts in a root of its own' "${verdicts//../}" "$("${enter[@]}" sh -c "cd /clone/files && sed 's|\.\./dist/||' calls | sh")"
-  "${enter[@]}" bash -c 'cd /clone && python3 -B tests/documents/examples.py /home/.local/bin README.md docs/USING.md' || wrong=1
+  "${enter[@]}" bash -c 'cd /clone && python3 -B tests/documents/examples.py /home/.local/bin README.md docs/USING.md docs/PORT.md' || wrong=1
   # what is printed and what is below it in a document are compared
   sed -i 's/^s VERIFIED MINIMAL$/s VERIFIED/' "$root/clone/docs/USING.md"
   status=0

@@ -1,5 +1,5 @@
 #!/usr/bin/env bash
-# Runs the commands of the README, of USING and of HINTS, and compares what they print with what is below them there; and the
+# Runs the commands of the README, of USING, of PORT and of HINTS, and compares what they print with what is below them there; and the
 # calls that programs and tools name as examples by `--help`.
 #
 #   tests/examples.sh [FOLDER]    with the programs of FOLDER, as one into which they were installed
@@ -8,4 +8,4 @@
 set -euo pipefail
 folder=${1:+$(realpath "$1")}
 cd "$(dirname "$0")/.."
-exec python3 -B tests/documents/examples.py --calls "$folder" README.md docs/USING.md docs/reference/HINTS.md
+exec python3 -B tests/documents/examples.py --calls "$folder" README.md docs/USING.md docs/PORT.md docs/reference/HINTS.md

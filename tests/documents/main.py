@@ -12,13 +12,13 @@ What a document can say of files, and how it is written:
     laws `name`, `name`                 laws of some crate; so are the names in a column "law" of a table
     ```rust path                        a quotation: these words are there one after the other
 
-Of each crate of `crates.txt` something is said, except of programs and of tests. The README has each program as it says that it is
-called. There is one version. What is believed by reading alone is no longer than `MOST_LINES` says. Words over which readers of
-technical English stumble are not used, in documents and in what programs say of themselves; fewer are checked in comments of sources,
-definitions and proofs.
+In `crates.txt` each crate is below those that it uses. Of each something is said, except of programs and of tests. FORMATS has each
+program as it says that it is called, the README without its options. There is one version. What is believed by reading alone is no longer
+than `MOST_LINES` says. Words over which readers of technical English stumble are not used, in documents and in what programs say of
+themselves; fewer are checked in comments of sources, definitions and proofs.
 
-All documents together have at most 30,000 words. Documents are the files that git has by the name `*.md`. A word is what stands between
-blanks outside of fenced code blocks, as `wc -w` counts, except a bar of a table.
+All documents but FORMATS have at most `MOST_WORDS` words together. Documents are the files that git has by the name `*.md`. A word is
+what stands between blanks outside of fenced code blocks, as `wc -w` counts, except a bar of a table.
 """
 
 import os
@@ -214,7 +214,11 @@ def bad_contracts(text, clauses, relations):
 
 
 def bad_crates():
-    known = set(crates())
+    known, seen = set(crates()), set()
+    for crate, words in crates().items():
+        seen.add(crate)
+        for it in sorted(known.intersection(words) - seen):
+            yield f"crates.txt: {crate} is above {it}, which it uses"
     lines = re.findall(r"^- .*", text_of(CRATES_PAGE).split("\n## ")[1], re.MULTILINE)
     told = {name for line in lines for name in re.findall(r"`(\w+)`(?:, |: )", line)}
     for crate in sorted(known - told):
@@ -226,8 +230,9 @@ def bad_crates():
 
 def bad_calls():
     for call in calls():
-        if f"`{call}`" not in text_of("README.md"):
-            yield f"README.md: no program `{call}`"
+        for path, words in (("docs/reference/FORMATS.md", call), ("README.md", call.split(" [--")[0])):
+            if f"`{words}`" not in text_of(path):
+                yield f"{path}: no program `{words}`"
 
 
 def bad_versions():

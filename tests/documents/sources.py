@@ -69,5 +69,5 @@ def calls():
 
 
 def crates():
-    """The crates of `crates.txt`."""
-    return re.findall(r"^(\w+)[^#\n]*:", text_of("crates.txt"), re.MULTILINE)
+    """The crates of `crates.txt`, in its order, each with the words of its line."""
+    return {name: words.split() for name, words in re.findall(r"^(\w+)[^#\n:]*:([^#\n]*)", text_of("crates.txt"), re.MULTILINE)}

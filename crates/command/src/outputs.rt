@@ -42,8 +42,10 @@ pub trait OutputSystem: System {
     fn open_new(&self, name: &str) -> io::Result<Self::Output>
         ensures { IfOk result (λ file. Self.Output.contents file ≡ unwritten self.now) };
 
-    /// Opens what has this name, to be written in place.
+    /// Opens what has this name, to be written in place: a pipe or a device, never a file that
+    /// could be replaced.
     fn open_in_place(&self, name: &str) -> io::Result<Self::Output>
+        requires { IsNone (place self.now name.now) }
         ensures { IfOk result (λ file. Self.Output.contents file ≡ unwritten self.now) };
 
     /// Returns the place of a name, as another name that leads there, or `None` if what has the

@@ -18,7 +18,9 @@ const VERSION: &str = "0.4.0 (built from sources)";
 /// # Errors
 ///
 /// `Failed` if it can't be written.
-pub fn help<R: Print + Eprint>(rt: &R, about: &About<'_>) -> Result<(), Refusal> {
+pub fn help<R: Print + Eprint>(rt: &R, about: &About<'_>) -> Result<(), Refusal>
+    ensures { IfErr result (λ refusal. refusal ≡ Failed) }
+{
     told(rt, print!(rt; "{about}"))
 }
 
@@ -27,7 +29,9 @@ pub fn help<R: Print + Eprint>(rt: &R, about: &About<'_>) -> Result<(), Refusal>
 /// # Errors
 ///
 /// As for `help`.
-pub fn version<R: Print + Eprint>(rt: &R, name: &str) -> Result<(), Refusal> {
+pub fn version<R: Print + Eprint>(rt: &R, name: &str) -> Result<(), Refusal>
+    ensures { IfErr result (λ refusal. refusal ≡ Failed) }
+{
     told(rt, println!(rt; "{name} {VERSION}"))
 }
 
