@@ -1,6 +1,7 @@
 mod AnswerLemmas
 mod Answered
 mod Assigning
+pub mod Deciding
 mod Needed
 mod Selecting
 mod Shown

@@ -1,20 +1,17 @@
 -- Runs of a proof and models after a formula.
 --     IsMinimalRun cnf r      a verdict on the formula, or why there is none
 --     IsEarlyCore r      a verdict, or a fault of the proof or of the models
---     IsRefusedCore r, IsUnwrittenCore r      no line was begun;  the verdict's line was not written whole
---     BeginsMinimalLine cnf old new      what was written then
 use Rattle.std.specs.Prelude.{◌≡◌, ℕ, false, List, Option, Result, Ok, Err, IfSome}
 use Rattle.std.specs.Option.{option_map}
 use Rattle.sat_formula.specs.Lines.{outcome_of}
 use Rattle.sat_formula.specs.Outcome.{Ended}
 use Rattle.sat_formula.specs.Whole.{IsOutcome}
 use Rattle.sat_formula.specs.Lies.{lie_in}
-use Rattle.whole_writes.specs.Beginnings.{AppendsBeginning}
 use Rattle.model_check.specs.Verdicts.{FailsText}
 use Rattle.follows_check.specs.Claims.{LacksClauses, lacks_clauses}
-use Rattle.follows_check.specs.Minimal.{ShowsMinimal, minimal_line}
+use Rattle.follows_check.specs.Minimal.{ShowsMinimal}
 use Rattle.follows_check.specs.declared.minimal.CoreFault.{CoreFault}
-use Rattle.follows_check.specs.declared.minimal.CoreFault.TheVariants.{Formula, FewClauses, Proof, Models, Write}
+use Rattle.follows_check.specs.declared.minimal.CoreFault.TheVariants.{Formula, FewClauses, Proof, Models}
 use Rattle.follows_check.specs.declared.minimal.MinimalVerdict.{MinimalVerdict}
 
 -- the whole text is a formula, its header says no more clauses than there are, and this holds of it
@@ -24,14 +21,13 @@ pub record OfCore (cnf : Option (List ℕ)) (P : List (List ℕ) → Type 0) : T
   pub complete : IfSome cnf (λ text. lacks_clauses (lie_in text) ≡ false)
   pub holds : P formula
 
--- the fault of the formula, then one of the proof or the models, then the verdict, written or not
+-- the fault of the formula, then one of the proof or the models, then the verdict
 abbrev pub IsMinimalRun : Option (List ℕ) → Result MinimalVerdict CoreFault → Type 0
 IsMinimalRun cnf (Ok verdict) = OfCore cnf (λ formula. ShowsMinimal formula verdict)
 IsMinimalRun cnf (Err (Formula fault)) = FailsText cnf fault
 IsMinimalRun cnf (Err FewClauses) = LacksClauses cnf
 IsMinimalRun cnf (Err (Proof fault)) = OfCore cnf (λ formula. Unit {0})
 IsMinimalRun cnf (Err (Models fault)) = OfCore cnf (λ formula. Unit {0})
-IsMinimalRun cnf (Err (Write cause)) = OfCore cnf (λ formula. Unit {0})
 
 -- a verdict, or a fault of the proof or of the models
 abbrev pub IsEarlyCore : Result MinimalVerdict CoreFault → Type 0
@@ -40,21 +36,3 @@ IsEarlyCore (Err (Formula fault)) = ⊥
 IsEarlyCore (Err FewClauses) = ⊥
 IsEarlyCore (Err (Proof fault)) = Unit {0}
 IsEarlyCore (Err (Models fault)) = Unit {0}
-IsEarlyCore (Err (Write cause)) = ⊥
-
--- no line was begun
-abbrev pub IsRefusedCore : Result MinimalVerdict CoreFault → Type 0
-IsRefusedCore (Ok verdict) = ⊥
-IsRefusedCore (Err (Write cause)) = ⊥
-IsRefusedCore r = Unit {0}
-
--- there is a verdict, and its line was not written whole
-abbrev pub IsUnwrittenCore : Result MinimalVerdict CoreFault → Type 0
-IsUnwrittenCore (Err (Write cause)) = Unit {0}
-IsUnwrittenCore r = ⊥
-
--- an output grew by a beginning of the line of a verdict that is true
-pub record BeginsMinimalLine (cnf old new : Option (List ℕ)) : Type 0 where
-  pub verdict : MinimalVerdict
-  pub shown : OfCore cnf (λ formula. ShowsMinimal formula verdict)
-  pub begins : AppendsBeginning old new (minimal_line verdict)

@@ -2,8 +2,6 @@
 --     IsProofRun cnf claims r      a verdict on the proof, or why there is none
 --     verdict_of judgment failing      the verdict on an answer
 --     IsAnswerRun cnf claims answer r      a verdict on the answer, or why there is none
---     IsRefusedRun r, IsUnwritten r      no line was begun;  the verdict's line was not written whole
---     BeginsProofLine, BeginsAnswerLine      what was written then
 --     IsUnasked cnf claims contents old new fault      why the formula for the solver was not written whole
 use Rattle.std.specs.Prelude.{◌≡◌, ℕ, List, Option, Some, None, Result, Ok, Err}
 use Rattle.sat_output.specs.FormulaTexts.{formula_text}
@@ -18,31 +16,26 @@ use Rattle.model_check.specs.declared.verdict.Verdict.{Verdict as Judgment}
 use Rattle.model_check.specs.declared.verdict.Verdict.TheVariants as judgments
 use Rattle.follows_check.specs.Answers.{IsJudged}
 use Rattle.follows_check.specs.Questions.{FailsClaims, FailsQuestion, OfQuestion, first_free}
-use Rattle.follows_check.specs.Verdicts.{IsShown, shown_line}
+use Rattle.follows_check.specs.Verdicts.{IsShown}
 use Rattle.follows_check.specs.declared.fault.QuestionFault.{QuestionFault}
 use Rattle.follows_check.specs.declared.fault.QuestionFault.TheVariants.{Formula, Claims, FewClaims, NoClaim, ManyVariables, OutOfMemory}
 use Rattle.follows_check.specs.declared.fault.RunFault.{RunFault}
-use Rattle.follows_check.specs.declared.fault.RunFault.TheVariants.{Question, Proof, Answer, Cut, Write}
+use Rattle.follows_check.specs.declared.fault.RunFault.TheVariants.{Question, Proof, Answer, Cut}
 use Rattle.follows_check.specs.declared.failing.Failing.{Failing}
 use Rattle.follows_check.specs.declared.verdict.Verdict.{Verdict}
 use Rattle.follows_check.specs.declared.verdict.Verdict.TheVariants.{NotFollows, Unmet, NoneFails}
+use Rattle.verdicts.specs.declared.shown.Unshown.{Unshown}
+use Rattle.verdicts.specs.declared.shown.Unshown.TheVariants.{Fault, Write}
 
 -- ---- a proof
 
--- the fault of the formula or the claims, then a fault of the proof, then the verdict, written or not
+-- the fault of the formula or the claims, then a fault of the proof, then the verdict
 abbrev pub IsProofRun : Option (List ℕ) → Option (List ℕ) → Result Verdict RunFault → Type 0
 IsProofRun cnf claims (Ok verdict) = OfQuestion cnf claims (λ formula claimed. IsShown formula claimed verdict)
 IsProofRun cnf claims (Err (Question fault)) = FailsQuestion cnf claims fault
 IsProofRun cnf claims (Err (Proof fault)) = OfQuestion cnf claims (λ formula claimed. Unit {0})
 IsProofRun cnf claims (Err (Answer fault)) = ⊥
 IsProofRun cnf claims (Err (Cut cut)) = ⊥
-IsProofRun cnf claims (Err (Write cause)) = OfQuestion cnf claims (λ formula claimed. Unit {0})
-
--- an output grew by a beginning of the line of a verdict that is true
-pub record BeginsProofLine (cnf claims old new : Option (List ℕ)) : Type 0 where
-  pub verdict : Verdict
-  pub shown : OfQuestion cnf claims (λ formula claimed. IsShown formula claimed verdict)
-  pub begins : AppendsBeginning old new (shown_line verdict)
 
 -- ---- an answer
 
@@ -82,7 +75,7 @@ IsUnread cnf claims NoClaim lits = IsUnclaimed cnf claims NoClaim lits
 IsUnread cnf claims ManyVariables lits = ⊥
 IsUnread cnf claims OutOfMemory lits = ⊥
 
--- the fault of the answer, then that of the formula, then what is missing of it, then that of the claims, then the verdict, written or not
+-- the fault of the answer, then that of the formula, then what is missing of it, then that of the claims, then the verdict
 abbrev pub IsAnswerRun : Option (List ℕ) → Option (List ℕ) → Option (List ℕ) → Result Verdict RunFault → Type 0
 IsAnswerRun cnf claims answer (Ok verdict) = OfAnswer answer (IsAnswered cnf claims verdict)
 IsAnswerRun cnf claims answer (Err (Question fault)) = OfAnswer answer (IsUnread cnf claims fault)
@@ -90,27 +83,6 @@ IsAnswerRun cnf claims answer (Err (Proof fault)) = ⊥
 IsAnswerRun cnf claims answer (Err (Answer fault)) = FailsBy answer fault
 IsAnswerRun cnf claims answer (Err (Cut cut)) =
     OfAnswer answer (λ lits. (judgment : Judgment) × models.IsJudged cnf (listed lits) judgment (Some cut))
-IsAnswerRun cnf claims answer (Err (Write cause)) =
-    (verdict : Verdict) × OfAnswer answer (IsAnswered cnf claims verdict)
-
--- an output grew by a beginning of the line of the verdict
-pub record BeginsAnswerLine (cnf claims answer old new : Option (List ℕ)) : Type 0 where
-  pub verdict : Verdict
-  pub answered : OfAnswer answer (IsAnswered cnf claims verdict)
-  pub begins : AppendsBeginning old new (shown_line verdict)
-
--- ---- both
-
--- no line was begun
-abbrev pub IsRefusedRun : Result Verdict RunFault → Type 0
-IsRefusedRun (Ok verdict) = ⊥
-IsRefusedRun (Err (Write cause)) = ⊥
-IsRefusedRun r = Unit {0}
-
--- there is a verdict, and its line was not written whole
-abbrev pub IsUnwritten : Result Verdict RunFault → Type 0
-IsUnwritten (Err (Write cause)) = Unit {0}
-IsUnwritten r = ⊥
 
 -- ---- the formula for the solver
 
@@ -120,9 +92,6 @@ BeginsQuestion cnf claims old new = OfQuestion cnf claims (λ formula claimed.
     AppendsBeginning old new (formula_text (follow_clauses (first_free formula claimed) formula claimed)))
 
 -- the formula or the claims were rejected, and nothing was written; or a beginning was
-abbrev pub IsUnasked : {W : Type 0} → Option (List ℕ) → Option (List ℕ) → (W → Option (List ℕ)) → W → W → RunFault → Type 0
-IsUnasked cnf claims contents old new (Question fault) = FailsQuestion cnf claims fault × (new ≡ old)
-IsUnasked cnf claims contents old new (Proof fault) = ⊥
-IsUnasked cnf claims contents old new (Answer fault) = ⊥
-IsUnasked cnf claims contents old new (Cut cut) = ⊥
+abbrev pub IsUnasked : {W : Type 0} → Option (List ℕ) → Option (List ℕ) → (W → Option (List ℕ)) → W → W → Unshown QuestionFault → Type 0
+IsUnasked cnf claims contents old new (Fault fault) = FailsQuestion cnf claims fault × (new ≡ old)
 IsUnasked cnf claims contents old new (Write cause) = BeginsQuestion cnf claims (contents old) (contents new)

@@ -1,9 +1,7 @@
-//! Runs of an answer: a claim is shown not to follow from a formula, and the verdict is written.
-ghost use Rattle.std.specs.Prelude.{◌≡◌, ℕ, List, IfOk, Ok, Some};
-ghost use Rattle.std.specs.Io.KnownBytes.{Appends};
-ghost use Rattle.follows_check.specs.Runs.{BeginsAnswerLine, IsAnswerRun, IsRefusedRun, IsUnwritten, verdict_of};
+//! Runs of an answer: a claim is shown not to follow from a formula.
+ghost use Rattle.std.specs.Prelude.{◌≡◌, ℕ, List, Ok, Some};
+ghost use Rattle.follows_check.specs.Runs.{IsAnswerRun, verdict_of};
 ghost use Rattle.follows_check.specs.Texts.{NotFollowsText};
-ghost use Rattle.follows_check.specs.Verdicts.{shown_line};
 
 use crate::failing::{Failing, find_failing};
 use crate::fault::{QuestionFault, RunFault};
@@ -11,34 +9,26 @@ use crate::lies::HeaderLies;
 use crate::verdict::Verdict;
 use answer_text::read_answer;
 use std::alloc::Global;
-use std::io::{Read, Write};
-use whole_writes::write_whole;
+use std::io::Read;
 
 /// Reads a solver's answer, then a formula and then claims in DIMACS CNF, each a clause at a time,
-/// writes the verdict's line, and returns the verdict: whether the answer satisfies the formula and
-/// makes all literals of some claim false.
+/// and returns the verdict: whether the answer satisfies the formula and makes all literals of some
+/// claim false.
 ///
 /// `lies` gets the mismatches of the headers, each once its file was read whole.
 ///
 /// # Errors
 ///
 /// `Answer`, `Question` or `Cut` for the first file that is rejected, or a formula that is not
-/// whole; nothing is written then. `Write` if the line of a verdict that was reached could not be
-/// written whole: a beginning of it is.
-pub fn run_answer<F: Read + Drop, C: Read + Drop, P: Read + Drop, W: Write>(
+/// whole.
+pub fn run_answer<F: Read + Drop, C: Read + Drop, P: Read + Drop>(
     alloc: Global,
     cnf: F,
     claims: C,
     answer: P,
-    out: &mut W,
     lies: &mut HeaderLies,
 ) -> Result<Verdict, RunFault>
     ensures run { IsAnswerRun (F.remaining cnf) (C.remaining claims) (P.remaining answer) result }
-    ensures line { IfOk result (λ verdict.
-        Appends (W.contents out.old) (W.contents out.new) (shown_line verdict)) }
-    ensures silent { IsRefusedRun result → out.new ≡ out.old }
-    ensures unwritten { IsUnwritten result → BeginsAnswerLine (F.remaining cnf)
-        (C.remaining claims) (P.remaining answer) (W.contents out.old) (W.contents out.new) }
     ensures fails { (text said : List ℕ) → (claim line : ℕ) → F.remaining cnf ≡ Some text
         → C.remaining claims ≡ Some said → result ≡ Ok (Verdict.NotFollows claim line)
         → NotFollowsText text said }
@@ -57,14 +47,9 @@ pub fn run_answer<F: Read + Drop, C: Read + Drop, P: Read + Drop, W: Write>(
         Some(cut) => return Err(RunFault::Cut(cut)),
         None => {}
     }
-    let failing = match find_failing(alloc, claims, &literals, &mut lies.claims) {
-        Ok(failing) => failing,
-        Err(fault) => return Err(RunFault::Question(fault)),
-    };
-    let verdict = verdict_of(judged.verdict, failing);
-    match write_whole(out, verdict.line()) {
-        Ok(()) => Ok(verdict),
-        Err(fault) => Err(RunFault::Write(fault)),
+    match find_failing(alloc, claims, &literals, &mut lies.claims) {
+        Ok(failing) => Ok(verdict_of(judged.verdict, failing)),
+        Err(fault) => Err(RunFault::Question(fault)),
     }
 }
 

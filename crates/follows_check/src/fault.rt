@@ -6,7 +6,6 @@ use answer_text::AnswerFault;
 use model_check::CutFormula;
 use sat_formula::DimacsFault;
 use std::alloc::{AllocError, AllocFailed};
-use std::io;
 use thiserror::Error;
 
 /// Why no formula is made of a formula and claims.
@@ -47,10 +46,6 @@ pub enum RunFault {
     /// The formula that is to be satisfied was read to its end, and is not whole.
     #[error("formula: {0}")]
     Cut(CutFormula),
-    /// The verdict was reached, but its line could not be written; or the formula for the solver
-    /// could not.
-    #[error("error writing: {0}")]
-    Write(io::Error),
 }
 
 impl From<AllocError> for QuestionFault {

@@ -1,6 +1,6 @@
-//! Checks whether claims follow from a formula, and writes the verdict in one line: a proof shows
-//! that they do, or the answer of a solver that they do not. It also checks whether all clauses of
-//! an unsatisfiable formula are needed.
+//! Checks whether claims follow from a formula: a proof shows that they do, or the answer of a
+//! solver that they do not. It also checks whether all clauses of an unsatisfiable formula are
+//! needed.
 //!
 //! The proof that claims follow is checked after a formula that is made in memory: the formula, and
 //! some claim fails. The file that the solver was given need not be trusted.
@@ -26,4 +26,4 @@ pub use lies::HeaderLies;
 pub use minimal::{CoreFault, MinimalVerdict, run_minimal};
 pub use question::write_question;
 pub use run::run_proof;
-pub use verdict::{Verdict, exit_status};
+pub use verdict::{Verdict, ended};

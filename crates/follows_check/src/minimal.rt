@@ -1,9 +1,8 @@
 //! Runs of a core: a formula is shown to be unsatisfiable and each of its clauses to be needed for
-//! that, and the verdict is written.
+//! that.
 ghost use Rattle.std.specs.Prelude.{◌≡◌, ℕ, List, IfOk, Ok, Some};
-ghost use Rattle.std.specs.Io.KnownBytes.{Appends};
 ghost use Rattle.follows_check.specs.Minimal.{IsMinimalText, ShowsMinimal, minimal_line, shows_minimal};
-ghost use Rattle.follows_check.specs.MinimalRuns.{BeginsMinimalLine, IsEarlyCore, IsMinimalRun, IsRefusedCore, IsUnwrittenCore};
+ghost use Rattle.follows_check.specs.MinimalRuns.{IsEarlyCore, IsMinimalRun};
 
 use crate::lies::lacks_clauses;
 use crate::models::check_models;
@@ -15,7 +14,7 @@ use std::alloc::Global;
 use std::io;
 use std::io::{Read, Write};
 use thiserror::Error;
-use verdicts::Claims;
+use verdicts::{Claims, Shown};
 use whole_writes::write_whole;
 
 /// The verdict on a formula.
@@ -47,9 +46,6 @@ pub enum CoreFault {
     /// The models could not be read up to that of the last clause, or to one that shows nothing.
     #[error("models: {0}")]
     Models(DimacsFault),
-    /// The verdict was reached, but its line could not be written.
-    #[error("error writing: {0}")]
-    Write(io::Error),
 }
 
 impl MinimalVerdict {
@@ -74,8 +70,16 @@ impl Claims for MinimalVerdict {
     }
 }
 
-/// Reads a formula in DIMACS CNF, a proof that no assignment satisfies it, and models, writes the
-/// verdict's line, and returns the verdict: whether each clause is needed.
+impl Shown for MinimalVerdict {
+    ghost line = { minimal_line };
+
+    fn write_line<W: Write>(&self, out: &mut W) -> io::Result<()> {
+        write_whole(out, self.line())
+    }
+}
+
+/// Reads a formula in DIMACS CNF, a proof that no assignment satisfies it, and models, and returns
+/// the verdict: whether each clause is needed.
 ///
 /// The models are lists of literals, each with a 0 after it, in the order of the clauses: each
 /// satisfies all clauses but its own. A variable that a model does not list has the value that it
@@ -84,25 +88,17 @@ impl Claims for MinimalVerdict {
 ///
 /// # Errors
 ///
-/// `Formula`, `FewClauses`, `Proof` or `Models` for the first file that is rejected; nothing is
-/// written then. `Write` if the line of a verdict that was reached could not be written whole: a
-/// beginning of it is.
-pub fn run_minimal<R: Log, F: Read + Drop, P: Read + Drop, M: Read + Drop, W: Write>(
+/// `Formula`, `FewClauses`, `Proof` or `Models` for the first file that is rejected.
+pub fn run_minimal<R: Log, F: Read + Drop, P: Read + Drop, M: Read + Drop>(
     rt: &R,
     alloc: Global,
     cnf: F,
     proof: P,
     models: M,
     format: ProofFormat,
-    out: &mut W,
     lie: &mut Option<LyingHeader>,
 ) -> Result<MinimalVerdict, CoreFault>
     ensures run { IsMinimalRun (F.remaining cnf) result }
-    ensures line { IfOk result (λ verdict.
-        Appends (W.contents out.old) (W.contents out.new) (minimal_line verdict)) }
-    ensures silent { IsRefusedCore result → out.new ≡ out.old }
-    ensures unwritten { IsUnwrittenCore result → BeginsMinimalLine (F.remaining cnf)
-        (W.contents out.old) (W.contents out.new) }
     ensures minimal { (text : List ℕ) → F.remaining cnf ≡ Some text
         → result ≡ Ok MinimalVerdict.Minimal → IsMinimalText text }
 {
@@ -113,14 +109,7 @@ pub fn run_minimal<R: Log, F: Read + Drop, P: Read + Drop, M: Read + Drop, W: Wr
     if lacks_clauses(*lie) {
         return Err(CoreFault::FewClauses);
     }
-    let verdict = match judge_core(rt, alloc, &formula, proof, models, format) {
-        Ok(verdict) => verdict,
-        Err(fault) => return Err(fault),
-    };
-    match write_whole(out, verdict.line()) {
-        Ok(()) => Ok(verdict),
-        Err(fault) => Err(CoreFault::Write(fault)),
-    }
+    judge_core(rt, alloc, &formula, proof, models, format)
 }
 
 /// Returns what a proof and models show of a formula. The models are read once the proof has shown

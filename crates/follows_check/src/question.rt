@@ -5,13 +5,14 @@ ghost use Rattle.follows_check.specs.Questions.{FailsClaims, FailsQuestion, OfQu
 ghost use Rattle.follows_check.specs.Runs.{IsUnasked};
 ghost use Rattle.follows_check.specs.Texts.{WritesQuestion};
 
-use crate::fault::{QuestionFault, RunFault};
+use crate::fault::QuestionFault;
 use crate::lies::{HeaderLies, lacks_clauses};
 use crate::selectors::add_failing;
 use sat_formula::{CnfFormula, LyingHeader, read_formula};
 use sat_output::write_formula;
 use std::alloc::Global;
 use std::io::{Read, Write};
+use verdicts::Unshown;
 
 /// Reads a formula and claims in DIMACS CNF, and writes the formula for a solver: the formula, and
 /// some claim fails.
@@ -20,15 +21,15 @@ use std::io::{Read, Write};
 ///
 /// # Errors
 ///
-/// `Question` if one of the two is rejected; nothing is written then. `Write` if a write failed: a
-/// beginning of the text is written.
+/// That of the first file that is rejected; nothing is written then. `Write` if a write failed: a
+/// prefix of the text is written.
 pub fn write_question<F: Read + Drop, C: Read + Drop, W: Write>(
     alloc: Global,
     cnf: F,
     claims: C,
     out: &mut W,
     lies: &mut HeaderLies,
-) -> Result<(), RunFault>
+) -> Result<(), Unshown<QuestionFault>>
     ensures written { OnOk result (WritesQuestion (F.remaining cnf) (C.remaining claims)
         (W.contents out.old) (W.contents out.new)) }
     ensures fault { IfErr result (IsUnasked (F.remaining cnf) (C.remaining claims)
@@ -36,15 +37,15 @@ pub fn write_question<F: Read + Drop, C: Read + Drop, W: Write>(
 {
     let asked = match read_question(alloc, cnf, claims, lies) {
         Ok(asked) => asked,
-        Err(fault) => return Err(RunFault::Question(fault)),
+        Err(fault) => return Err(Unshown::Fault(fault)),
     };
     match write_formula(alloc, out, &asked) {
         Ok(()) => {}
-        Err(fault) => return Err(RunFault::Write(fault)),
+        Err(fault) => return Err(Unshown::Write(fault)),
     }
     match out.flush() {
         Ok(()) => Ok(()),
-        Err(fault) => Err(RunFault::Write(fault)),
+        Err(fault) => Err(Unshown::Write(fault)),
     }
 }
 

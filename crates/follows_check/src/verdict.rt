@@ -1,6 +1,11 @@
 //! Verdicts, their lines and their exit statuses.
 ghost use Rattle.std.specs.Prelude.{◌≡◌};
-ghost use Rattle.follows_check.specs.Verdicts.{shown_line, status_of};
+ghost use Rattle.follows_check.specs.Verdicts.{decides, ended_of, shown_line};
+
+use std::io;
+use std::io::Write;
+use verdicts::{Claims, Refusal, Shown};
+use whole_writes::write_whole;
 
 /// The verdict on a formula and claims.
 #[derive(Clone, Copy, Debug, PartialEq, Eq)]
@@ -32,15 +37,36 @@ impl Verdict {
     }
 }
 
-/// Returns the exit status of a program that made this run: 20 if the claims follow, 10 if one does
-/// not, 3 if neither is shown, 1 if the run was rejected.
-pub fn exit_status<E>(outcome: &Result<Verdict, E>) -> u8
-    ensures { result ≡ status_of outcome.now }
+/// A proof or an answer is asked whether the claims follow.
+impl Claims for Verdict {
+    ghost claimed = { decides };
+
+    fn claims(&self) -> bool {
+        matches!(self, Verdict::Follows | Verdict::NotFollows { .. })
+    }
+}
+
+impl Shown for Verdict {
+    ghost line = { shown_line };
+
+    fn write_line<W: Write>(&self, out: &mut W) -> io::Result<()> {
+        write_whole(out, self.line())
+    }
+}
+
+/// Returns the exit status of a run's verdict: 20 if the claims follow, 10 if one does not, 3 if
+/// neither is shown.
+///
+/// # Errors
+///
+/// `Failed` if the run was rejected.
+pub fn ended<E>(outcome: &Result<Verdict, E>) -> Result<u8, Refusal>
+    ensures { result ≡ ended_of outcome.now }
 {
     match outcome {
-        Ok(Verdict::Follows) => 20,
-        Ok(Verdict::NotFollows { .. }) => 10,
-        Ok(_) => 3,
-        Err(_) => 1,
+        Ok(Verdict::Follows) => Ok(20),
+        Ok(Verdict::NotFollows { .. }) => Ok(10),
+        Ok(_) => Ok(3),
+        Err(_) => Err(Refusal::Failed),
     }
 }

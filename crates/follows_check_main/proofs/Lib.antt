@@ -1,1 +1,2 @@
-mod StatusLemmas
+mod Ending
+mod Meant

@@ -5,6 +5,7 @@ use follows_check::{ProofFormat, QuestionFault, RunFault, Verdict};
 use sat_formula::DimacsFault;
 use std::io;
 use std::io::Eprint;
+use verdicts::Unshown;
 
 pub(crate) fn unread_formula(fault: io::Error) -> QuestionFault {
     QuestionFault::Formula(DimacsFault::of_error(fault))
@@ -20,21 +21,29 @@ pub(crate) fn unread_answer(fault: io::Error) -> RunFault {
 
 /// In which file the fault is, where these claims are read.
 pub(crate) fn place_of<'a>(
-    fault: &RunFault,
+    fault: &Unshown<RunFault>,
     format: ProofFormat,
     claims: &'a str,
-    output: Option<&'a str>,
 ) -> FaultPlace<'a> {
     match fault {
-        RunFault::Question(fault) => place_in_question(fault, claims),
-        RunFault::Proof(_) if format == ProofFormat::Lpr => FaultPlace::LratProof,
-        RunFault::Proof(_) => FaultPlace::DratProof,
-        RunFault::Answer(_) => FaultPlace::Answer,
-        RunFault::Cut(_) => FaultPlace::Formula(None),
-        RunFault::Write(_) => match output {
-            Some(name) => FaultPlace::Output(Some(name)),
-            None => FaultPlace::Elsewhere,
-        },
+        Unshown::Fault(RunFault::Question(fault)) => place_in_question(fault, claims),
+        Unshown::Fault(RunFault::Proof(_)) if format == ProofFormat::Lpr => FaultPlace::LratProof,
+        Unshown::Fault(RunFault::Proof(_)) => FaultPlace::DratProof,
+        Unshown::Fault(RunFault::Answer(_)) => FaultPlace::Answer,
+        Unshown::Fault(RunFault::Cut(_)) => FaultPlace::Formula(None),
+        Unshown::Write(_) => FaultPlace::Elsewhere,
+    }
+}
+
+/// In which file the fault is of a formula for the solver, which is written to this one.
+pub(crate) fn place_of_question<'a>(
+    fault: &Unshown<QuestionFault>,
+    claims: &'a str,
+    file: &'a str,
+) -> FaultPlace<'a> {
+    match fault {
+        Unshown::Fault(fault) => place_in_question(fault, claims),
+        Unshown::Write(_) => FaultPlace::Output(Some(file)),
     }
 }
 

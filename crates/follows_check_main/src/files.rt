@@ -1,10 +1,10 @@
 //! A formula, claims and a proof or an answer, in files.
-ghost use Rattle.std.specs.Prelude.{◌≡◌, ℕ, List, Ok, Some, IfOk, IfSome};
+ghost use Rattle.std.specs.Prelude.{◌≡◌, IfOk, IfSome};
 ghost use Rattle.command.specs.Held.{held_in};
-ghost use Rattle.command.specs.Inputs.{bytes_named, input_bytes_left};
-ghost use Rattle.follows_check.specs.Texts.{FollowsText, NotFollowsText};
-ghost use Rattle.follows_check.specs.Verdicts.{status_of};
-ghost use Rattle.follows_check_main.specs.Shown.{ShowsLine};
+ghost use Rattle.command.specs.Inputs.{input_bytes_left};
+ghost use Rattle.follows_check.specs.Verdicts.{ended_of, shown_line, status_of};
+ghost use Rattle.follows_check_main.specs.Meaning.{MeansOf};
+ghost use Rattle.verdicts.specs.Statuses.{Ends};
 
 use crate::about::ABOUT;
 use crate::fault::{place_of, say_verdict, unread_answer, unread_claims, unread_formula};
@@ -12,10 +12,9 @@ use command::{
     Call, FaultPlace, HeldBytes, InputNames, InputOf, Refusal, System, hold_file, open_file,
     open_inputs, progress_of, say_fault, warn_of_header,
 };
-use follows_check::{
-    HeaderLies, ProofFormat, RunFault, Verdict, exit_status, run_answer, run_proof,
-};
+use follows_check::{HeaderLies, ProofFormat, RunFault, Verdict, ended, run_answer, run_proof};
 use std::io::{Eprint, Write};
+use verdicts::{Unshown, show_line};
 
 /// The names of the files that a call reads.
 #[derive(Clone, Copy)]
@@ -46,13 +45,10 @@ pub(crate) fn check_proof<S: System, W: Write>(
     call: &Call<'_>,
     out: &mut W,
 ) -> Result<u8, Refusal>
-    ensures follows { (text said : List ℕ)
-        → bytes_named (S.file_bytes system.now) (S.input_bytes system.now) names.entry.inputs.cnf.now ≡ Some text
-        → S.file_bytes system.now names.entry.claims.now ≡ Some said
-        → result ≡ Ok 20 → FollowsText text said }
-    ensures never { result ≡ Ok 10 → ⊥ }
-    ensures unwritten { result ≡ Ok 0 → ⊥ }
-    ensures line { ShowsLine result (W.contents out.old) (W.contents out.new) }
+    ensures ends { Ends shown_line status_of
+        (MeansOf (S.file_bytes system.now) (S.input_bytes system.now)
+        names.entry.inputs.cnf.now names.entry.claims.now) (Unit {0})
+        (W.contents out.old) (W.contents out.new) result }
 {
     let (cnf, proof) = open_inputs(system, names.inputs.cnf, names.inputs.other).ok_or(
         Refusal::NotRun,
@@ -62,17 +58,17 @@ pub(crate) fn check_proof<S: System, W: Write>(
     let progress = &progress_of(system, &ABOUT, call);
     let proof = proof.told(system, progress);
     let mut lies = HeaderLies::none();
-    let outcome = run_proof(
+    let checked = run_proof(
         progress,
         system.alloc(),
         cnf,
         claims,
         proof,
         format,
-        out,
         &mut lies,
     );
-    Ok(end(system, names, format, &outcome, lies))
+    let outcome = show_line(checked.map_err(Unshown::Fault), out);
+    end(system, names, format, &outcome, lies)
 }
 
 /// Checks an answer. All files are opened before anything is read, and each is read whole.
@@ -81,13 +77,10 @@ pub(crate) fn check_answer<S: System, W: Write>(
     names: Names<'_>,
     out: &mut W,
 ) -> Result<u8, Refusal>
-    ensures fails { (text said : List ℕ)
-        → bytes_named (S.file_bytes system.now) (S.input_bytes system.now) names.entry.inputs.cnf.now ≡ Some text
-        → S.file_bytes system.now names.entry.claims.now ≡ Some said
-        → result ≡ Ok 10 → NotFollowsText text said }
-    ensures never { result ≡ Ok 20 → ⊥ }
-    ensures unwritten { result ≡ Ok 0 → ⊥ }
-    ensures line { ShowsLine result (W.contents out.old) (W.contents out.new) }
+    ensures ends { Ends shown_line status_of
+        (MeansOf (S.file_bytes system.now) (S.input_bytes system.now)
+        names.entry.inputs.cnf.now names.entry.claims.now) (Unit {0})
+        (W.contents out.old) (W.contents out.new) result }
 {
     let (cnf, answer) = open_inputs(system, names.inputs.cnf, names.inputs.other).ok_or(
         Refusal::NotRun,
@@ -102,8 +95,9 @@ pub(crate) fn check_answer<S: System, W: Write>(
     )?;
     let (cnf, claims) = hold_question(system, names, cnf, claims)?;
     let mut lies = HeaderLies::none();
-    let outcome = run_answer(system.alloc(), cnf, claims, answer, out, &mut lies);
-    Ok(end(system, names, ProofFormat::Told, &outcome, lies))
+    let checked = run_answer(system.alloc(), cnf, claims, answer, &mut lies);
+    let outcome = show_line(checked.map_err(Unshown::Fault), out);
+    end(system, names, ProofFormat::Told, &outcome, lies)
 }
 
 /// Reads the formula and the claims whole.
@@ -130,26 +124,30 @@ pub(crate) fn hold_question<S: System>(
     Ok((cnf, claims))
 }
 
-/// Says on standard error how a run ended, and the mismatches of the headers. The result is the
-/// exit status.
+/// Says on standard error how a run ended, and the mismatches of the headers. Returns the exit
+/// status of the verdict.
+///
+/// # Errors
+///
+/// `Failed` if there is none.
 fn end<S: System>(
     system: &S,
     names: Names<'_>,
     format: ProofFormat,
-    outcome: &Result<Verdict, RunFault>,
+    outcome: &Result<Verdict, Unshown<RunFault>>,
     lies: HeaderLies,
-) -> u8
-    ensures { result ≡ status_of outcome.now }
+) -> Result<u8, Refusal>
+    ensures { result ≡ ended_of outcome.now }
 {
     match outcome {
         Ok(verdict) => say_verdict(system, *verdict),
         Err(fault) => {
-            let place = place_of(fault, format, names.claims, None);
+            let place = place_of(fault, format, names.claims);
             say_fault(system, names.inputs, fault, place);
         }
     }
     warn_of_headers(system, names, lies);
-    exit_status(outcome)
+    ended(outcome)
 }
 
 pub(crate) fn warn_of_headers<R: Eprint>(rt: &R, names: Names<'_>, lies: HeaderLies) {

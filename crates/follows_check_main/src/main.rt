@@ -9,12 +9,11 @@
 //! `RUST_LOG` asks for, as `RUST_LOG=info`, is logged to standard error; else nothing is.
 #![tactic(auto)]
 
-ghost use Rattle.std.specs.Prelude.{◌≡◌, ℕ, List, [], ◌∷◌, None, Ok, Some, IfErr, IfOk, codes, false, is_some, true};
-ghost use Rattle.std.specs.Io.KnownBytes.{Appends};
-ghost use Rattle.command.specs.Calls.{choices_of, is_given, operands_of, value_given};
-ghost use Rattle.command.specs.Inputs.{bytes_named};
-ghost use Rattle.follows_check.specs.Texts.{FollowsText, NotFollowsText};
-ghost use Rattle.follows_check_main.specs.Shown.{NamesQuestion, ShowsLine};
+ghost use Rattle.std.specs.Prelude.{◌≡◌, ◌⊎◌, IfErr, IfOk};
+ghost use Rattle.follows_check.specs.Verdicts.{shown_line, status_of};
+ghost use Rattle.follows_check_main.specs.Meaning.{Means};
+ghost use Rattle.follows_check_main.specs.Questions.{AsksQuestion, EndsAsked};
+ghost use Rattle.verdicts.specs.Statuses.{Ends};
 
 mod about;
 mod example;
@@ -51,32 +50,16 @@ fn run<S: OutputSystem, W: Write>(
     given: &mut S::Names,
     out: &mut W,
 ) -> Result<u8, Refusal>
-    ensures follows { (cnf claims proof text said : List ℕ)
-        → operands_of call.now ≡ cnf ∷ claims ∷ proof ∷ []
-        → is_given (choices_of call.now) (codes "--example") ≡ false
-        → bytes_named (S.file_bytes system.now) (S.input_bytes system.now) cnf ≡ Some text
-        → S.file_bytes system.now claims ≡ Some said
-        → result ≡ Ok 20 → FollowsText text said }
-    ensures fails { (cnf claims answer text said : List ℕ)
-        → operands_of call.now ≡ cnf ∷ claims ∷ answer ∷ []
-        → is_given (choices_of call.now) (codes "--example") ≡ false
-        → bytes_named (S.file_bytes system.now) (S.input_bytes system.now) cnf ≡ Some text
-        → S.file_bytes system.now claims ≡ Some said
-        → result ≡ Ok 10 → NotFollowsText text said }
-    ensures line { ShowsLine result (W.contents out.old) (W.contents out.new) }
-    ensures question { (cnf claims file text said : List ℕ)
-        → operands_of call.now ≡ cnf ∷ claims ∷ []
-        → is_given (choices_of call.now) (codes "--example") ≡ false
-        → value_given (choices_of call.now) (codes "--formula") ≡ Some file
-        → bytes_named (S.file_bytes system.now) (S.input_bytes system.now) cnf ≡ Some text
-        → bytes_named (S.file_bytes system.now) (S.input_bytes system.now) claims ≡ Some said
-        → S.unwritten system.now ≡ Some [] → result ≡ Ok 0
-        → NamesQuestion (S.place system.now file) (Some text) (Some said)
-        (S.renamed given.old) (S.renamed given.new) }
-    ensures unnamed { IfErr result (λ status. S.renamed given.new ≡ S.renamed given.old) }
+    ensures ends { EndsAsked call.now (λ file. AsksQuestion (S.file_bytes system.now)
+        (S.input_bytes system.now) (S.place system.now) (S.unwritten system.now) call.now file
+        (S.renamed given.old) (S.renamed given.new)) out.old out.new result
+        ⊎ Ends shown_line status_of (λ verdict. (S.renamed given.new ≡ S.renamed given.old)
+        × Means (S.file_bytes system.now) (S.input_bytes system.now) call.now verdict)
+        (S.renamed given.new ≡ S.renamed given.old)
+        (W.contents out.old) (W.contents out.new) result }
 {
     if call.has("--example") {
-        return Ok(check_example(system, out));
+        return check_example(system, out);
     }
     let format = format_of(system, call)?;
     match call.value("--formula") {
@@ -89,7 +72,7 @@ fn run<S: OutputSystem, W: Write>(
 ///
 /// # Errors
 ///
-/// The exit status 2 if options exclude each other.
+/// `NotRun` if options exclude each other.
 fn format_of<S: OutputSystem>(system: &S, call: &Call<'_>) -> Result<ProofFormat, Refusal> {
     let format = match (call.has("--drat"), call.has("--frat"), call.has("--lpr")) {
         (false, false, false) => ProofFormat::Told,
@@ -116,14 +99,9 @@ fn ask<S: OutputSystem>(
     file: &str,
     given: &mut S::Names,
 ) -> Result<u8, Refusal>
-    ensures named { (cnf claims text said : List ℕ)
-        → operands_of call.now ≡ cnf ∷ claims ∷ []
-        → bytes_named (S.file_bytes system.now) (S.input_bytes system.now) cnf ≡ Some text
-        → bytes_named (S.file_bytes system.now) (S.input_bytes system.now) claims ≡ Some said
-        → S.unwritten system.now ≡ Some [] → result ≡ Ok 0
-        → NamesQuestion (S.place system.now file.now) (Some text) (Some said)
-        (S.renamed given.old) (S.renamed given.new) }
-    ensures zero { IfOk result (λ status. status ≡ 0) }
+    ensures asked { IfOk result (λ status. (status ≡ 0)
+        × AsksQuestion (S.file_bytes system.now) (S.input_bytes system.now) (S.place system.now)
+        (S.unwritten system.now) call.now file.now (S.renamed given.old) (S.renamed given.new)) }
     ensures unnamed { IfErr result (λ status. S.renamed given.new ≡ S.renamed given.old) }
 {
     match call.operands.as_slice() {
@@ -146,18 +124,9 @@ fn check<S: OutputSystem, W: Write>(
     format: ProofFormat,
     out: &mut W,
 ) -> Result<u8, Refusal>
-    ensures follows { (cnf claims proof text said : List ℕ)
-        → operands_of call.now ≡ cnf ∷ claims ∷ proof ∷ []
-        → bytes_named (S.file_bytes system.now) (S.input_bytes system.now) cnf ≡ Some text
-        → S.file_bytes system.now claims ≡ Some said
-        → result ≡ Ok 20 → FollowsText text said }
-    ensures fails { (cnf claims answer text said : List ℕ)
-        → operands_of call.now ≡ cnf ∷ claims ∷ answer ∷ []
-        → bytes_named (S.file_bytes system.now) (S.input_bytes system.now) cnf ≡ Some text
-        → S.file_bytes system.now claims ≡ Some said
-        → result ≡ Ok 10 → NotFollowsText text said }
-    ensures unwritten { result ≡ Ok 0 → ⊥ }
-    ensures line { ShowsLine result (W.contents out.old) (W.contents out.new) }
+    ensures ends { Ends shown_line status_of
+        (Means (S.file_bytes system.now) (S.input_bytes system.now) call.now) (Unit {0})
+        (W.contents out.old) (W.contents out.new) result }
 {
     let [formula, claims, proof] = call.operands.as_slice() else {
         return Err(unnamed(system, &ABOUT, call.operands.len()));

@@ -3,12 +3,12 @@ ghost use Rattle.std.specs.Prelude.{◌≡◌, ℕ, List, [], Ok, Some, IfErr, I
 ghost use Rattle.std.specs.Io.Buffered.{writer_contents};
 ghost use Rattle.command.specs.Inputs.{bytes_named};
 ghost use Rattle.command.specs.Outputs.{Gives};
-ghost use Rattle.follows_check_main.specs.Shown.{NamesQuestion};
+ghost use Rattle.follows_check_main.specs.Questions.{NamesQuestion};
 
-use crate::fault::place_of;
+use crate::fault::place_of_question;
 use crate::files::{Names, hold_question, warn_of_headers};
 use command::{OutputSystem, ReadFile, Refusal, WrittenFiles, open_inputs, say_cause, say_fault};
-use follows_check::{HeaderLies, ProofFormat, RunFault, write_question};
+use follows_check::{HeaderLies, write_question};
 use std::io::BufWriter;
 
 /// Writes the formula for a solver. The file is made once both others are open, and has its name
@@ -37,7 +37,7 @@ pub(crate) fn write_formula<S: OutputSystem>(
     let mut lies = HeaderLies::none();
     let written = write_question(system.alloc(), cnf, claims, &mut out, &mut lies);
     if let Err(fault) = &written {
-        let place = place_of(fault, ProofFormat::Told, names.claims, Some(file));
+        let place = place_of_question(fault, names.claims, file);
         say_fault(system, names.inputs, fault, place);
     }
     warn_of_headers(system, names, lies);

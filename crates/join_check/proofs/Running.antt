@@ -1,6 +1,6 @@
--- What runs have shown and written.
-use Rattle.std.proofs.Common.{◌≡◌, ℕ, List, Option, Some, None, Result, Ok, Err, sym, subst}
-use Rattle.std.specs.Prelude.{IfErr, IfOk, IfSome}
+-- What runs have shown.
+use Rattle.std.proofs.Common.{◌≡◌, ℕ, List, Option, Some, None, Result, Ok}
+use Rattle.std.specs.Prelude.{IfSome}
 use Rattle.std.specs.Option.{option_map}
 use Rattle.sha2.specs.Sha256.{sha256}
 use Rattle.sat_formula.specs.Lines.{outcome_of}
@@ -10,11 +10,10 @@ use Rattle.sat_output.specs.FormulaTexts.{clauses_text}
 use Rattle.receipts.specs.Joins.{PartsAreRefuted, ShownIsRefuted}
 use Rattle.receipts.specs.Lines.{receipts_text}
 use Rattle.receipts.specs.declared.receipt.Receipt.{Receipt}
-use Rattle.join_check.specs.Runs.{BeginsLine, IsCubesRun, IsCubesShown, IsPiecesRun, IsTextShown, IsUnwritten, IsWriteFault}
+use Rattle.join_check.specs.Runs.{IsCubesRun, IsCubesShown, IsPiecesRun, IsTextShown}
 use Rattle.join_check.specs.Texts.{IsRefutedByParts, IsRefutedByReceipts}
 use Rattle.join_check.specs.Verdicts.{IsCubesVerdict, IsTextVerdict}
 use Rattle.join_check.specs.declared.fault.RunFault.{RunFault}
-use Rattle.join_check.specs.declared.fault.RunFault.TheVariants.{Receipts, Formula, Cubes, OutOfMemory, Write}
 use Rattle.join_check.specs.declared.verdict.Verdict.{Verdict}
 use Rattle.join_check.specs.declared.verdict.Verdict.TheVariants.{Verified}
 
@@ -45,52 +44,22 @@ cubes_shown cnf cubes said formula split receipts verdict lines whole parted sho
   shown = shown;
 }
 
--- ---- what was written
-
-pub pieces_run : (cnf said old new : Option (List ℕ)) (verdict : Verdict) (r : Result Verdict RunFault) → IsTextShown cnf said verdict → IfOk r (λ told. told ≡ verdict)
-    → IfErr r (IsWriteFault old new verdict) → IsPiecesRun cnf said r
-pieces_run cnf said old new verdict (Ok told) shown same fault = subst (IsTextShown cnf said) (sym same) shown
-pieces_run cnf said old new verdict (Err (Receipts why)) shown same fault = tt
-pieces_run cnf said old new verdict (Err (Formula why)) shown same fault = tt
-pieces_run cnf said old new verdict (Err (Cubes why)) shown same fault = fault
-pieces_run cnf said old new verdict (Err OutOfMemory) shown same fault = tt
-pieces_run cnf said old new verdict (Err (Write why)) shown same fault = (verdict, shown)
-
-pub cubes_run : (cnf cubes said old new : Option (List ℕ)) (verdict : Verdict) (r : Result Verdict RunFault) → IsCubesShown cnf cubes said verdict → IfOk r (λ told. told ≡ verdict)
-    → IfErr r (IsWriteFault old new verdict) → IsCubesRun cnf cubes said r
-cubes_run cnf cubes said old new verdict (Ok told) shown same fault = subst (IsCubesShown cnf cubes said) (sym same) shown
-cubes_run cnf cubes said old new verdict (Err (Receipts why)) shown same fault = tt
-cubes_run cnf cubes said old new verdict (Err (Formula why)) shown same fault = absurd fault
-cubes_run cnf cubes said old new verdict (Err (Cubes why)) shown same fault = absurd fault
-cubes_run cnf cubes said old new verdict (Err OutOfMemory) shown same fault = tt
-cubes_run cnf cubes said old new verdict (Err (Write why)) shown same fault = (verdict, shown)
-
-pub begins : (P : Verdict → Type 0) (old new : Option (List ℕ)) (verdict : Verdict) (r : Result Verdict RunFault) → P verdict → IfErr r (IsWriteFault old new verdict) → IsUnwritten r → BeginsLine P old new
-begins P old new verdict (Ok told) shown fault unwritten = absurd unwritten
-begins P old new verdict (Err (Receipts why)) shown fault unwritten = absurd unwritten
-begins P old new verdict (Err (Formula why)) shown fault unwritten = absurd unwritten
-begins P old new verdict (Err (Cubes why)) shown fault unwritten = absurd unwritten
-begins P old new verdict (Err OutOfMemory) shown fault unwritten = absurd unwritten
-begins P old new verdict (Err (Write why)) shown fault unwritten = record { verdict = verdict; shown = shown; begins = fault }
-
 -- ---- what it says of the texts
 
-pub verdict_is : (verdict told : Verdict) (r : Result Verdict RunFault) → IfOk r (λ other. other ≡ verdict) → r ≡ Ok told → verdict ≡ told
-verdict_is verdict told r same e = sym (rw e at same)
-
-pub refuted_by_receipts : ShownIsRefuted → (cnf said : Option (List ℕ)) (text lines : List ℕ) (count : ℕ) → cnf ≡ Some text → said ≡ Some lines → IsTextShown cnf said (Verified count) → IsRefutedByReceipts lines text
-refuted_by_receipts shows cnf said text lines count e d h =
-    let known = rw (e, d) at h in
+pub refuted_by_receipts : ShownIsRefuted → (cnf said : Option (List ℕ)) (r : Result Verdict RunFault) → IsPiecesRun cnf said r
+    → (text lines : List ℕ) → cnf ≡ Some text → said ≡ Some lines → (count : ℕ) → r ≡ Ok (Verified count) → IsRefutedByReceipts lines text
+refuted_by_receipts shows cnf said r run text lines e d count verified =
+    let known = rw (e, d, verified) at run in
     record {
       receipts = known.receipts;
       lines = known.lines;
       refutes = λ text_of honest stands. shows text_of known.receipts text honest stands known.shown.1;
     }
 
-pub refuted_by_parts : PartsAreRefuted → (cnf cubes said : Option (List ℕ)) (text split lines : List ℕ) (count : ℕ) → cnf ≡ Some text → cubes ≡ Some split → said ≡ Some lines
-    → IsCubesShown cnf cubes said (Verified count) → IsRefutedByParts lines split text
-refuted_by_parts shows cnf cubes said text split lines count e d f h =
-    let known = rw (e, d, f) at h in
+pub refuted_by_parts : PartsAreRefuted → (cnf cubes said : Option (List ℕ)) (r : Result Verdict RunFault) → IsCubesRun cnf cubes said r
+    → (text split lines : List ℕ) → cnf ≡ Some text → cubes ≡ Some split → said ≡ Some lines → (count : ℕ) → r ≡ Ok (Verified count) → IsRefutedByParts lines split text
+refuted_by_parts shows cnf cubes said r run text split lines e d f count verified =
+    let known = rw (e, d, f, verified) at run in
     record {
       receipts = known.receipts;
       lines = known.lines;

@@ -1,7 +1,6 @@
 //! Why a run has no verdict.
 use receipts::ReceiptFault;
 use sat_formula::DimacsFault;
-use std::io;
 use thiserror::Error;
 
 /// Why a run has no verdict.
@@ -16,10 +15,7 @@ pub enum RunFault {
     /// The cubes were not read whole.
     #[error("cubes: {0}")]
     Cubes(DimacsFault),
-    /// There was no memory for the texts of the parts or for the verdict's line.
+    /// There was no memory for what the receipts show or for the texts of the parts.
     #[error("out of memory")]
     OutOfMemory,
-    /// The verdict was reached, but its line could not be written.
-    #[error("error writing: {0}")]
-    Write(io::Error),
 }

@@ -1,5 +1,5 @@
-//! Whether receipts show that no assignment satisfies a formula, with a verdict in one line: the
-//! receipts of the parts of a formula that is split into cubes, or those of the pieces of a proof.
+//! Whether receipts show that no assignment satisfies a formula: the receipts of the parts of a
+//! formula that is split into cubes, or those of the pieces of a proof.
 //!
 //! A receipt says what a checker has shown of the text with a digest. Where all receipts are
 //! honest, what they show together is proved here.
@@ -19,4 +19,3 @@ mod verdict;
 pub use fault::RunFault;
 pub use run::{run_cubes, run_pieces};
 pub use verdict::{Unshown, Verdict};
-pub use verdicts::exit_status;

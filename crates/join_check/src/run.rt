@@ -1,9 +1,7 @@
-//! Runs: receipts and a formula are read, perhaps cubes, and the verdict is written.
-ghost use Rattle.std.specs.Prelude.{◌≡◌, ℕ, List, IfErr, IfOk, Ok, Some};
-ghost use Rattle.std.specs.Io.KnownBytes.{Appends};
-ghost use Rattle.join_check.specs.Runs.{BeginsLine, IsCubesRun, IsCubesShown, IsPiecesRun, IsRefusedRun, IsTextShown, IsUnwritten, IsWriteFault};
+//! Runs: receipts and a formula are read, perhaps cubes, and the verdict is returned.
+ghost use Rattle.std.specs.Prelude.{◌≡◌, ℕ, List, Ok, Some};
+ghost use Rattle.join_check.specs.Runs.{IsCubesRun, IsPiecesRun};
 ghost use Rattle.join_check.specs.Texts.{IsRefutedByParts, IsRefutedByReceipts};
-ghost use Rattle.join_check.specs.Verdicts.{shown_line};
 
 use crate::fault::RunFault;
 use crate::judging::{judge_cubes, judge_text};
@@ -12,87 +10,25 @@ use receipts::laws::{parts_are_refuted, shown_is_refuted};
 use receipts::{read_digested, read_receipts};
 use sat_formula::{DimacsFault, read_formula};
 use std::alloc::Global;
-use std::io::{Read, Write};
-use whole_writes::write_whole;
+use std::io::Read;
 
-/// Reads receipts and the text of a formula, writes the line of the verdict whether the receipts
-/// lead from the digest of the text to a formula that is refuted, and returns the verdict.
+/// Reads receipts and the text of a formula, and returns the verdict whether the receipts lead from
+/// the digest of the text to a formula that is refuted.
 ///
 /// # Errors
 ///
-/// `Receipts` or `Formula` if one of the two can't be read, or `OutOfMemory`; nothing is written
-/// then. `Write` if the line of a verdict that was reached could not be written whole: a beginning
-/// of it is.
-pub fn run_pieces<F: Read + Drop, P: Read + Drop, W: Write>(
+/// `Receipts` or `Formula` if one of the two can't be read, or `OutOfMemory`.
+pub fn run_pieces<F: Read + Drop, P: Read + Drop>(
     alloc: Global,
     cnf: F,
     receipts: P,
-    out: &mut W,
 ) -> Result<Verdict, RunFault>
     ensures run { IsPiecesRun (F.remaining cnf) (P.remaining receipts) result }
-    ensures line { IfOk result (λ verdict.
-        Appends (W.contents out.old) (W.contents out.new) (shown_line verdict)) }
-    ensures silent { IsRefusedRun result → out.new ≡ out.old }
-    ensures unwritten { IsUnwritten result
-        → BeginsLine (IsTextShown (F.remaining cnf) (P.remaining receipts))
-        (W.contents out.old) (W.contents out.new) }
     ensures refutes { (text said : List ℕ) → F.remaining cnf ≡ Some text
         → P.remaining receipts ≡ Some said
         → (count : ℕ) → result ≡ Ok (Verdict.Verified count) → IsRefutedByReceipts said text }
 {
     shown_is_refuted();
-    match read_and_judge(alloc, cnf, receipts) {
-        Ok(verdict) => write_verdict(alloc, out, verdict),
-        Err(fault) => Err(fault),
-    }
-}
-
-/// Reads receipts, a formula and cubes in DIMACS CNF, each cube as a clause, writes the line of the
-/// verdict whether the receipts show all parts of the formula, and returns the verdict.
-///
-/// The part of a cube is the formula and a unit clause for each literal of the cube; the closing
-/// part is the formula and, against each cube, a clause of the negations of its literals. Of each
-/// the text is made in memory, as `write_formula` of `sat_output` writes it.
-///
-/// # Errors
-///
-/// `Receipts`, `Formula` or `Cubes` if one of them can't be read, or `OutOfMemory`; nothing is
-/// written then. `Write` if the line of a verdict that was reached could not be written whole: a
-/// beginning of it is.
-pub fn run_cubes<F: Read + Drop, C: Read + Drop, P: Read + Drop, W: Write>(
-    alloc: Global,
-    cnf: F,
-    cubes: C,
-    receipts: P,
-    out: &mut W,
-) -> Result<Verdict, RunFault>
-    ensures run { IsCubesRun (F.remaining cnf) (C.remaining cubes) (P.remaining receipts) result }
-    ensures line { IfOk result (λ verdict.
-        Appends (W.contents out.old) (W.contents out.new) (shown_line verdict)) }
-    ensures silent { IsRefusedRun result → out.new ≡ out.old }
-    ensures unwritten { IsUnwritten result → BeginsLine
-        (IsCubesShown (F.remaining cnf) (C.remaining cubes) (P.remaining receipts))
-        (W.contents out.old) (W.contents out.new) }
-    ensures refutes { (text split said : List ℕ) → F.remaining cnf ≡ Some text
-        → C.remaining cubes ≡ Some split → P.remaining receipts ≡ Some said
-        → (count : ℕ) → result ≡ Ok (Verdict.Verified count) → IsRefutedByParts said split text }
-{
-    parts_are_refuted();
-    match read_and_judge_parts(alloc, cnf, cubes, receipts) {
-        Ok(verdict) => write_verdict(alloc, out, verdict),
-        Err(fault) => Err(fault),
-    }
-}
-
-/// Reads receipts and the text of a formula, and returns the verdict.
-fn read_and_judge<F: Read + Drop, P: Read + Drop>(
-    alloc: Global,
-    cnf: F,
-    receipts: P,
-) -> Result<Verdict, RunFault>
-    ensures run { IsPiecesRun (F.remaining cnf) (P.remaining receipts) result }
-    ensures unwritten { IsUnwritten result → ⊥ }
-{
     let receipts = match read_receipts(alloc, receipts) {
         Ok(receipts) => receipts,
         Err(fault) => return Err(RunFault::Receipts(fault)),
@@ -107,16 +43,28 @@ fn read_and_judge<F: Read + Drop, P: Read + Drop>(
     }
 }
 
-/// Reads receipts, a formula and cubes, and returns the verdict.
-fn read_and_judge_parts<F: Read + Drop, C: Read + Drop, P: Read + Drop>(
+/// Reads receipts, a formula and cubes in DIMACS CNF, each cube as a clause, and returns the
+/// verdict whether the receipts show all parts of the formula.
+///
+/// The part of a cube is the formula and a unit clause for each literal of the cube; the closing
+/// part is the formula and, against each cube, a clause of the negations of its literals. Of each
+/// the text is made in memory, as `write_formula` of `sat_output` writes it.
+///
+/// # Errors
+///
+/// `Receipts`, `Formula` or `Cubes` if one of them can't be read, or `OutOfMemory`.
+pub fn run_cubes<F: Read + Drop, C: Read + Drop, P: Read + Drop>(
     alloc: Global,
     cnf: F,
     cubes: C,
     receipts: P,
 ) -> Result<Verdict, RunFault>
     ensures run { IsCubesRun (F.remaining cnf) (C.remaining cubes) (P.remaining receipts) result }
-    ensures unwritten { IsUnwritten result → ⊥ }
+    ensures refutes { (text split said : List ℕ) → F.remaining cnf ≡ Some text
+        → C.remaining cubes ≡ Some split → P.remaining receipts ≡ Some said
+        → (count : ℕ) → result ≡ Ok (Verdict.Verified count) → IsRefutedByParts said split text }
 {
+    parts_are_refuted();
     let receipts = match read_receipts(alloc, receipts) {
         Ok(receipts) => receipts,
         Err(fault) => return Err(RunFault::Receipts(fault)),
@@ -132,31 +80,5 @@ fn read_and_judge_parts<F: Read + Drop, C: Read + Drop, P: Read + Drop>(
     match judge_cubes(alloc, &formula, &cubes, &receipts) {
         Ok(verdict) => Ok(verdict),
         Err(_) => Err(RunFault::OutOfMemory),
-    }
-}
-
-/// Writes a verdict's line and returns the verdict.
-///
-/// # Errors
-///
-/// `OutOfMemory`, with nothing written, or `Write`, with a beginning of the line written.
-fn write_verdict<W: Write>(
-    alloc: Global,
-    out: &mut W,
-    verdict: Verdict,
-) -> Result<Verdict, RunFault>
-    ensures told { IfOk result (λ told. told ≡ verdict) }
-    ensures line { IfOk result (λ told.
-        Appends (W.contents out.old) (W.contents out.new) (shown_line told)) }
-    ensures silent { IsRefusedRun result → out.new ≡ out.old }
-    ensures fault { IfErr result
-        (IsWriteFault (W.contents out.old) (W.contents out.new) verdict) }
-{
-    let Ok(line) = verdict.line(alloc) else {
-        return Err(RunFault::OutOfMemory);
-    };
-    match write_whole(out, &line) {
-        Ok(()) => Ok(verdict),
-        Err(fault) => Err(RunFault::Write(fault)),
     }
 }

@@ -1,11 +1,17 @@
 //! Verdicts on receipts, and their lines.
-ghost use Rattle.std.specs.Prelude.{◌≡◌, IfOk};
+ghost use Rattle.std.specs.Prelude.{◌≡◌};
 ghost use Rattle.join_check.specs.Verdicts.{shown_line, shows_unsat};
 
-use std::alloc::{AllocError, Global};
+use arrayvec::ArrayString;
+use itoa::Buffer;
+use std::io;
+use std::io::Write;
 use thiserror::Error;
-use verdicts::Claims;
-use written_numbers::words::push_decimal;
+use verdicts::{Claims, Shown};
+use whole_writes::write_whole;
+
+/// The line of a verdict. The longest one has 50 bytes, 20 of them digits.
+type Line = ArrayString<50>;
 
 /// Whether receipts show that no assignment satisfies a formula.
 #[derive(Clone, Copy, Debug, PartialEq, Eq)]
@@ -31,29 +37,31 @@ pub enum Unshown {
 }
 
 impl Verdict {
-    /// Returns the bytes of its line, with the line feed.
-    ///
-    /// # Errors
-    ///
-    /// `AllocError` if memory runs out.
-    pub fn line(self, alloc: Global) -> Result<Vec<u8>, AllocError>
-        ensures { IfOk result (λ line. line.items ≡ shown_line self) }
+    /// Returns its line, with the line feed.
+    pub fn line(self) -> Line
+        ensures { result.bytes ≡ shown_line self }
     {
         match self {
-            Verdict::Verified { receipts } => verified_line(alloc, receipts),
-            Verdict::NotVerified(_) => Vec::from_slice(alloc, b"s NOT VERIFIED\n"),
+            Verdict::Verified { receipts } => verified_line(receipts),
+            Verdict::NotVerified(_) => {
+                let mut line = Line::new();
+                line.push_str("s NOT VERIFIED\n");
+                line
+            }
         }
     }
 }
 
 /// Returns the line of a formula that this many receipts refute.
-fn verified_line(alloc: Global, receipts: u64) -> Result<Vec<u8>, AllocError>
-    ensures { IfOk result (λ line. line.items ≡ shown_line (Verdict.Verified receipts)) }
+fn verified_line(receipts: u64) -> Line
+    ensures { result.bytes ≡ shown_line (Verdict.Verified receipts) }
 {
-    let mut line = Vec::from_slice(alloc, b"s VERIFIED UNSAT BY ")?;
-    push_decimal(&mut line, receipts)?;
-    line.extend_from_slice(b" RECEIPTS\n")?;
-    Ok(line)
+    let mut line = Line::new();
+    let mut buffer = Buffer::new();
+    line.push_str("s VERIFIED UNSAT BY ");
+    line.push_str(buffer.format(receipts));
+    line.push_str(" RECEIPTS\n");
+    line
 }
 
 /// Receipts are asked to show that no assignment satisfies the formula.
@@ -62,5 +70,13 @@ impl Claims for Verdict {
 
     fn claims(&self) -> bool {
         matches!(self, Verdict::Verified { .. })
+    }
+}
+
+impl Shown for Verdict {
+    ghost line = { shown_line };
+
+    fn write_line<W: Write>(&self, out: &mut W) -> io::Result<()> {
+        write_whole(out, self.line().as_str().as_bytes())
     }
 }

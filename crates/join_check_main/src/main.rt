@@ -5,13 +5,9 @@
 //! of a file. `--example` checks a small fixed example. The name `-` is standard input.
 #![tactic(auto)]
 
-ghost use Rattle.std.specs.Prelude.{◌≡◌, ℕ, List, [], ◌∷◌, None, Ok, Some, codes, false};
-ghost use Rattle.std.specs.Io.KnownBytes.{Appends};
-ghost use Rattle.command.specs.Calls.{choices_of, is_given, operands_of, value_given};
-ghost use Rattle.command.specs.Inputs.{bytes_named};
-ghost use Rattle.join_check.specs.Texts.{IsRefutedByParts, IsRefutedByReceipts};
-ghost use Rattle.join_check.specs.Verdicts.{shown_line};
-ghost use Rattle.join_check.specs.declared.verdict.Verdict.TheVariants.{Verified};
+ghost use Rattle.join_check.specs.Verdicts.{shown_line, shows_unsat};
+ghost use Rattle.join_check_main.specs.Meaning.{Means};
+ghost use Rattle.verdicts.specs.Statuses.{Ends, status_shown};
 
 mod about;
 mod files;
@@ -19,10 +15,11 @@ mod files;
 use crate::about::ABOUT;
 use crate::files::{check_formula, check_parts};
 use command::{Call, EXAMPLE_FORMULA, Host, Refusal, System, input_names, run_program, say_cause};
-use join_check::{exit_status, run_pieces};
+use join_check::run_pieces;
 use std::io;
 use std::io::Write;
 use std::process::ExitCode;
+use verdicts::{Unshown, ended, show_line};
 
 /// The formula carries to three clauses, which are refuted: 1, not 1 or 2, not 1 or not 2.
 const EXAMPLE_RECEIPTS: &[u8] =
@@ -35,26 +32,12 @@ fn main(rt: HostRuntime) -> ExitCode {
 
 /// Runs a call in a system, with `out` as its standard output.
 fn run<S: System, W: Write>(system: &S, call: &Call<'_>, out: &mut W) -> Result<u8, Refusal>
-    ensures refutes { (cnf receipts text said : List ℕ)
-        → operands_of call.now ≡ cnf ∷ receipts ∷ []
-        → is_given (choices_of call.now) (codes "--example") ≡ false
-        → value_given (choices_of call.now) (codes "--cubes") ≡ None
-        → bytes_named (S.file_bytes system.now) (S.input_bytes system.now) cnf ≡ Some text
-        → bytes_named (S.file_bytes system.now) (S.input_bytes system.now) receipts ≡ Some said
-        → result ≡ Ok 0 → IsRefutedByReceipts said text }
-    ensures parts { (cnf receipts cubes text split said : List ℕ)
-        → operands_of call.now ≡ cnf ∷ receipts ∷ []
-        → is_given (choices_of call.now) (codes "--example") ≡ false
-        → value_given (choices_of call.now) (codes "--cubes") ≡ Some cubes
-        → bytes_named (S.file_bytes system.now) (S.input_bytes system.now) cnf ≡ Some text
-        → S.file_bytes system.now cubes ≡ Some split
-        → bytes_named (S.file_bytes system.now) (S.input_bytes system.now) receipts ≡ Some said
-        → result ≡ Ok 0 → IsRefutedByParts said split text }
-    ensures line { result ≡ Ok 0 → (count : ℕ)
-        × Appends (W.contents out.old) (W.contents out.new) (shown_line (Verified count)) }
+    ensures ends { Ends shown_line (status_shown shows_unsat)
+        (Means (S.file_bytes system.now) (S.input_bytes system.now) call.now) (Unit {0})
+        (W.contents out.old) (W.contents out.new) result }
 {
     if call.has("--example") {
-        return Ok(check_example(system, out));
+        return check_example(system, out);
     }
     let names = input_names(system, &ABOUT, call)?;
     match call.value("--cubes") {
@@ -63,12 +46,13 @@ fn run<S: System, W: Write>(system: &S, call: &Call<'_>, out: &mut W) -> Result<
     }
 }
 
-fn check_example<S: System, W: Write>(system: &S, out: &mut W) -> u8
-    ensures { result ≡ 0 → (count : ℕ)
-        × Appends (W.contents out.old) (W.contents out.new) (shown_line (Verified count)) }
+fn check_example<S: System, W: Write>(system: &S, out: &mut W) -> Result<u8, Refusal>
+    ensures ends { Ends shown_line (status_shown shows_unsat) (λ verdict. Unit {0}) (Unit {0})
+        (W.contents out.old) (W.contents out.new) result }
 {
     let (cnf, receipts) = (EXAMPLE_FORMULA, EXAMPLE_RECEIPTS);
-    let outcome = run_pieces(system.alloc(), cnf, receipts, out);
+    let checked = run_pieces(system.alloc(), cnf, receipts).map_err(Unshown::Fault);
+    let outcome = show_line(checked, out);
     say_cause(system, &outcome);
-    exit_status(&outcome)
+    ended(&outcome)
 }

@@ -1,1 +1,1 @@
-mod StatusLemmas
+mod Meant

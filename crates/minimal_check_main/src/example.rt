@@ -1,14 +1,12 @@
 //! A small fixed example.
-ghost use Rattle.std.specs.Prelude.{◌≡◌};
-ghost use Rattle.std.specs.Io.KnownBytes.{Appends};
-ghost use Rattle.follows_check.specs.Minimal.{minimal_line};
-ghost use Rattle.follows_check.specs.declared.minimal.MinimalVerdict.TheVariants.{Minimal};
+ghost use Rattle.follows_check.specs.Minimal.{minimal_line, shows_minimal};
+ghost use Rattle.verdicts.specs.Statuses.{Ends, status_shown};
 
-use command::{EXAMPLE_FORMULA, System, say_cause};
+use command::{EXAMPLE_FORMULA, Refusal, System, say_cause};
 use follows_check::{ProofFormat, run_minimal};
 use log::sink::Discard;
 use std::io::Write;
-use verdicts::exit_status;
+use verdicts::{Unshown, ended, show_line};
 
 /// 1 follows from the first two clauses of the example's formula, and with it the others are
 /// against each other.
@@ -18,19 +16,20 @@ const PROOF: &[u8] = b"1 0\n0\n";
 const MODELS: &[u8] = b"-1 -2 0\n-1 2 0\n1 -2 0\n1 2 0\n";
 
 /// Checks the example, and returns the exit status.
-pub(crate) fn check_example<S: System, W: Write>(system: &S, out: &mut W) -> u8
-    ensures { result ≡ 0 → Appends (W.contents out.old) (W.contents out.new) (minimal_line Minimal) }
+pub(crate) fn check_example<S: System, W: Write>(system: &S, out: &mut W) -> Result<u8, Refusal>
+    ensures ends { Ends minimal_line (status_shown shows_minimal) (λ verdict. Unit {0})
+        (Unit {0}) (W.contents out.old) (W.contents out.new) result }
 {
-    let outcome = run_minimal(
+    let checked = run_minimal(
         &Discard,
         system.alloc(),
         EXAMPLE_FORMULA,
         PROOF,
         MODELS,
         ProofFormat::Told,
-        out,
         &mut None,
     );
+    let outcome = show_line(checked.map_err(Unshown::Fault), out);
     say_cause(system, &outcome);
-    exit_status(&outcome)
+    ended(&outcome)
 }

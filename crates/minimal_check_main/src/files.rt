@@ -1,9 +1,7 @@
 //! A core, a proof and models, in files.
-ghost use Rattle.std.specs.Prelude.{◌≡◌, ℕ, List, Ok, Some};
-ghost use Rattle.std.specs.Io.KnownBytes.{Appends};
-ghost use Rattle.command.specs.Inputs.{bytes_named};
-ghost use Rattle.follows_check.specs.Minimal.{IsMinimalText, minimal_line};
-ghost use Rattle.follows_check.specs.declared.minimal.MinimalVerdict.TheVariants.{Minimal};
+ghost use Rattle.follows_check.specs.Minimal.{minimal_line, shows_minimal};
+ghost use Rattle.minimal_check_main.specs.Meaning.{MeansOf};
+ghost use Rattle.verdicts.specs.Statuses.{Ends, status_shown};
 
 use crate::about::ABOUT;
 use command::{
@@ -14,7 +12,7 @@ use follows_check::{CoreFault, MinimalVerdict, ProofFormat, run_minimal};
 use sat_formula::DimacsFault;
 use std::io;
 use std::io::{Eprint, Write};
-use verdicts::exit_status;
+use verdicts::{Unshown, ended, show_line};
 
 /// Checks a core. All files are opened before anything is read. The core is read whole before the
 /// proof is, and the proof before the models are. Returns the exit status.
@@ -26,11 +24,9 @@ pub(crate) fn check_files<S: System, W: Write>(
     call: &Call<'_>,
     out: &mut W,
 ) -> Result<u8, Refusal>
-    ensures minimal { (text : List ℕ)
-        → bytes_named (S.file_bytes system.now) (S.input_bytes system.now) names.entry.cnf.now ≡ Some text
-        → result ≡ Ok 0 → IsMinimalText text }
-    ensures line { result ≡ Ok 0
-        → Appends (W.contents out.old) (W.contents out.new) (minimal_line Minimal) }
+    ensures ends { Ends minimal_line (status_shown shows_minimal)
+        (MeansOf (S.file_bytes system.now) (S.input_bytes system.now) names.entry.cnf.now)
+        (Unit {0}) (W.contents out.old) (W.contents out.new) result }
 {
     let (cnf, proof) = open_inputs(system, names.cnf, names.other).ok_or(Refusal::NotRun)?;
     let models = open_file(system, models_name).ok_or(Refusal::NotRun)?;
@@ -44,36 +40,40 @@ pub(crate) fn check_files<S: System, W: Write>(
     let progress = &progress_of(system, &ABOUT, call);
     let proof = proof.told(system, progress);
     let mut lie = None;
-    let outcome = run_minimal(
+    let checked = run_minimal(
         progress,
         system.alloc(),
         cnf,
         proof,
         models.file,
         format,
-        out,
         &mut lie,
     );
+    let outcome = show_line(checked.map_err(Unshown::Fault), out);
     match &outcome {
         Ok(verdict) => say_verdict(system, *verdict),
         Err(fault) => say_fault(system, names, fault, place_of(fault, format, models_name)),
     }
     warn_of_header(system, names.cnf, &lie);
-    Ok(exit_status(&outcome))
+    ended(&outcome)
 }
 
 fn unread_formula(fault: io::Error) -> CoreFault {
     CoreFault::Formula(DimacsFault::of_error(fault))
 }
 
-fn place_of<'a>(fault: &CoreFault, format: ProofFormat, models: &'a str) -> FaultPlace<'a> {
+fn place_of<'a>(
+    fault: &Unshown<CoreFault>,
+    format: ProofFormat,
+    models: &'a str,
+) -> FaultPlace<'a> {
     match fault {
-        CoreFault::Formula(fault) => FaultPlace::in_formula(fault),
-        CoreFault::FewClauses => FaultPlace::Formula(None),
-        CoreFault::Proof(_) if format == ProofFormat::Lpr => FaultPlace::LratProof,
-        CoreFault::Proof(_) => FaultPlace::DratProof,
-        CoreFault::Models(_) => FaultPlace::Output(Some(models)),
-        CoreFault::Write(_) => FaultPlace::Elsewhere,
+        Unshown::Fault(CoreFault::Formula(fault)) => FaultPlace::in_formula(fault),
+        Unshown::Fault(CoreFault::FewClauses) => FaultPlace::Formula(None),
+        Unshown::Fault(CoreFault::Proof(_)) if format == ProofFormat::Lpr => FaultPlace::LratProof,
+        Unshown::Fault(CoreFault::Proof(_)) => FaultPlace::DratProof,
+        Unshown::Fault(CoreFault::Models(_)) => FaultPlace::Output(Some(models)),
+        Unshown::Write(_) => FaultPlace::Elsewhere,
     }
 }
 

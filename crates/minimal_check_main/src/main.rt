@@ -8,12 +8,9 @@
 //! is.
 #![tactic(auto)]
 
-ghost use Rattle.std.specs.Prelude.{◌≡◌, ℕ, List, [], ◌∷◌, Ok, Some, codes, false};
-ghost use Rattle.std.specs.Io.KnownBytes.{Appends};
-ghost use Rattle.command.specs.Calls.{choices_of, is_given, operands_of};
-ghost use Rattle.command.specs.Inputs.{bytes_named};
-ghost use Rattle.follows_check.specs.Minimal.{IsMinimalText, minimal_line};
-ghost use Rattle.follows_check.specs.declared.minimal.MinimalVerdict.TheVariants.{Minimal};
+ghost use Rattle.follows_check.specs.Minimal.{minimal_line, shows_minimal};
+ghost use Rattle.minimal_check_main.specs.Meaning.{Means};
+ghost use Rattle.verdicts.specs.Statuses.{Ends, status_shown};
 
 mod about;
 mod example;
@@ -35,16 +32,12 @@ fn main(rt: HostRuntime) -> ExitCode {
 
 /// Runs a call in a system, with `out` as its standard output.
 fn run<S: System, W: Write>(system: &S, call: &Call<'_>, out: &mut W) -> Result<u8, Refusal>
-    ensures minimal { (core proof models text : List ℕ)
-        → operands_of call.now ≡ core ∷ proof ∷ models ∷ []
-        → is_given (choices_of call.now) (codes "--example") ≡ false
-        → bytes_named (S.file_bytes system.now) (S.input_bytes system.now) core ≡ Some text
-        → result ≡ Ok 0 → IsMinimalText text }
-    ensures line { result ≡ Ok 0
-        → Appends (W.contents out.old) (W.contents out.new) (minimal_line Minimal) }
+    ensures ends { Ends minimal_line (status_shown shows_minimal)
+        (Means (S.file_bytes system.now) (S.input_bytes system.now) call.now)
+        (Unit {0}) (W.contents out.old) (W.contents out.new) result }
 {
     if call.has("--example") {
-        return Ok(check_example(system, out));
+        return check_example(system, out);
     }
     let format = match (call.has("--drat"), call.has("--frat"), call.has("--lpr")) {
         (false, false, false) => ProofFormat::Told,

@@ -1,16 +1,20 @@
-use Rattle.std.proofs.Common.{◌≡◌, arith, Some}
-use Rattle.std.proofs.lemmas.Grind.{common_steps}
-use Rattle.command.specs.Held.{held_in}
-use Rattle.follows_check.specs.Verdicts.{status_of}
-use Rattle.follows_check_main.proofs.StatusLemmas.{fails_by}
+use Rattle.std.proofs.Common.{rules}
+use Rattle.follows_check_main.proofs.Ending.{ends_shown}
+use Rattle.follows_check_main.proofs.Meant.{by_answer}
 use Rattle.follows_check_main.proofs.files.check_answer.Goals as goal
+use Rattle.follows_check_main.specs.Meaning.{MeansOf}
+use Rattle.verdicts.proofs.Ending.{same_verdict}
 
--- only a verdict on a claim has this status
-pub returns-clause-fails : goal.returns-clause-fails
-returns-clause-fails g c text said known other well =
-    let status = c.end.ensures in
-    let ten : status_of c.run_answer-outcome.result ≡ 10 = cc in
-    let shown = fails_by c.run_answer-outcome.result ten in
-    let formula : Some (held_in c.in_ok-cnf-2.cnf) ≡ Some text = grind (arith, common_steps) in
-    let claims : Some (held_in c.in_ok-cnf-2.claims) ≡ Some said = grind (arith, common_steps) in
-    c.run_answer-outcome.ensures.fails text said shown.claim shown.line formula claims shown.is
+-- the bytes that were read are those of the files
+pub returns : goal.returns
+returns g c =
+    let files = g.S.System.file_bytes c.args.system.now in
+    let input = g.S.System.input_bytes c.args.system.now in
+    let names = c.args.names in
+    let Means = MeansOf files input names.inputs.cnf.now names.claims.now in
+    let reached = by_answer files input names.inputs.cnf.now names.claims.now _ _ _ c.run_answer-checked.result c.run_answer-checked.ensures.run (λ text said claim line is are fails. c.run_answer-checked.ensures.fails text said claim line (search rules) (search rules) fails) in
+    record {
+      ends = rw c.end.ensures
+          (ends_shown Means (Unit {0}) _ _ c.map_err.result c.show_line-outcome.result c.show_line-outcome.ensures
+          (same_verdict Means _ c.run_answer-checked.result c.map_err.result c.map_err.ensures.cases reached) (λ none. tt));
+    }

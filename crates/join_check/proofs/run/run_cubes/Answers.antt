@@ -1,16 +1,8 @@
-use Rattle.join_check.specs.Runs.{IsCubesShown}
-use Rattle.join_check.specs.declared.verdict.Verdict.TheVariants.{Verified}
-use Rattle.join_check.proofs.Running.{begins, cubes_run, refuted_by_parts, verdict_is}
+use Rattle.join_check.proofs.Running.{cubes_shown, refuted_by_parts}
 use Rattle.join_check.proofs.run.run_cubes.Goals as goal
 
-pub returns-in-Ok-clause-run : goal.returns-in-Ok-clause-run
-returns-in-Ok-clause-run g c = cubes_run _ _ _ _ _ c.in-Ok.verdict c.write_verdict.result c.in-Ok.ensures.run c.write_verdict.ensures.told c.write_verdict.ensures.fault
+pub returns-in-Ok-judge_cubes-clause-run : goal.returns-in-Ok-judge_cubes-clause-run
+returns-in-Ok-judge_cubes-clause-run g c = cubes_shown _ _ _ _ _ c.in-Ok.receipts.items _ c.in-Ok.ensures c.in-Ok-read_formula.ensures.whole c.in-Ok-read_formula-2.ensures.whole (rw c.deref.ensures.value at c.in-Ok-judge_cubes.ensures)
 
-pub returns-in-Ok-clause-unwritten : goal.returns-in-Ok-clause-unwritten
-returns-in-Ok-clause-unwritten g c =
-    begins (IsCubesShown (g.F.Read.remaining c.args.cnf) (g.C.Read.remaining c.args.cubes) (g.P.Read.remaining c.args.receipts)) _ _ c.in-Ok.verdict c.write_verdict.result c.in-Ok.ensures.run c.write_verdict.ensures.fault
-
-pub returns-in-Ok-clause-refutes : goal.returns-in-Ok-clause-refutes
-returns-in-Ok-clause-refutes g c = λ text split said of_cnf of_cubes of_receipts count verified.
-    let is = verdict_is c.in-Ok.verdict (Verified count) c.write_verdict.result c.write_verdict.ensures.told verified in
-    refuted_by_parts c.parts_are_refuted.ensures _ _ _ text split said count of_cnf of_cubes of_receipts (rw is at c.in-Ok.ensures.run)
+pub returns-in-Ok-judge_cubes-clause-refutes : goal.returns-in-Ok-judge_cubes-clause-refutes
+returns-in-Ok-judge_cubes-clause-refutes g c = refuted_by_parts c.parts_are_refuted.ensures (g.F.Read.remaining c.args.cnf) (g.C.Read.remaining c.args.cubes) (g.P.Read.remaining c.args.receipts) _ (returns-in-Ok-judge_cubes-clause-run g c)

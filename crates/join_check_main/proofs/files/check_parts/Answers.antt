@@ -1,18 +1,21 @@
-use Rattle.std.proofs.Common.{◌≡◌, rules}
-use Rattle.verdicts.specs.Statuses.{status_of}
-use Rattle.join_check.specs.Verdicts.{shows_unsat}
-use Rattle.join_check_main.proofs.StatusLemmas.{line_zero, status_zero}
+use Rattle.std.proofs.Common.{rules}
+use Rattle.join_check.specs.Verdicts.{shown_line, shows_unsat}
+use Rattle.join_check_main.proofs.Meant.{by_parts}
 use Rattle.join_check_main.proofs.files.check_parts.Goals as goal
+use Rattle.join_check_main.specs.Meaning.{MeansByParts}
+use Rattle.verdicts.proofs.Ending.{ends_shown, same_verdict}
 
-pub returns-clause-refutes : goal.returns-clause-refutes
-returns-clause-refutes g c text split said of_cnf of_cubes of_receipts well =
-    let status = c.exit_status.ensures in
-    let zero : status_of shows_unsat c.run_cubes-outcome.result ≡ 0 = cc in
-    let shown = status_zero c.run_cubes-outcome.result zero in
-    c.run_cubes-outcome.ensures.refutes text split said (search rules) (search rules) (search rules) shown.0 shown.1
-
-pub returns-clause-line : goal.returns-clause-line
-returns-clause-line g c well =
-    let status = c.exit_status.ensures in
-    let zero : status_of shows_unsat c.run_cubes-outcome.result ≡ 0 = cc in
-    line_zero _ _ c.run_cubes-outcome.result c.run_cubes-outcome.ensures.line zero
+-- the bytes that were read are those of the files
+pub returns : goal.returns
+returns g c =
+    let files = g.S.System.file_bytes c.args.system.now in
+    let input = g.S.System.input_bytes c.args.system.now in
+    let names = c.args.names in
+    let Means = MeansByParts files input names.cnf.now names.other.now c.args.cubes_name.now in
+    let reached = by_parts files input names.cnf.now names.other.now c.args.cubes_name.now c.run_cubes.result
+    (λ text split said count of_cnf of_cubes of_receipts is. c.run_cubes.ensures.refutes text split said (search rules) (search rules) (search rules) count is) in
+    record {
+      ends = rw c.ended.ensures
+          (ends_shown shown_line shows_unsat Means (Unit {0}) _ _ c.map_err-checked.result c.show_line-outcome.result c.show_line-outcome.ensures
+          (same_verdict Means _ c.run_cubes.result c.map_err-checked.result c.map_err-checked.ensures.cases reached) (λ none. tt));
+    }

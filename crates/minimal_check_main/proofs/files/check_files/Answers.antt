@@ -1,12 +1,19 @@
-use Rattle.std.proofs.Common.{◌≡◌}
-use Rattle.follows_check.specs.Minimal.{shows_minimal}
-use Rattle.minimal_check_main.proofs.StatusLemmas.{status_zero}
+use Rattle.std.proofs.Common.{rules}
+use Rattle.follows_check.specs.Minimal.{minimal_line, shows_minimal}
+use Rattle.minimal_check_main.proofs.Meant.{by_run}
 use Rattle.minimal_check_main.proofs.files.check_files.Goals as goal
-use Rattle.verdicts.specs.Statuses.{status_of}
+use Rattle.minimal_check_main.specs.Meaning.{MeansOf}
+use Rattle.verdicts.proofs.Ending.{ends_shown, same_verdict}
 
--- the line is that of the only verdict with this status
-pub returns-clause-line : goal.returns-clause-line
-returns-clause-line g c well =
-    let status = c.exit_status.ensures in
-    let zero : status_of shows_minimal c.run_minimal-outcome.result ≡ 0 = cc in
-    rw (status_zero c.run_minimal-outcome.result zero) at c.run_minimal-outcome.ensures.line
+-- the bytes that were read are those of the file
+pub returns : goal.returns
+returns g c =
+    let files = g.S.System.file_bytes c.args.system.now in
+    let input = g.S.System.input_bytes c.args.system.now in
+    let Means = MeansOf files input c.args.names.cnf.now in
+    let reached = by_run files input c.args.names.cnf.now c.run_minimal-checked.result (λ text known is. c.run_minimal-checked.ensures.minimal text (search rules) is) in
+    record {
+      ends = rw c.ended.ensures
+          (ends_shown minimal_line shows_minimal Means (Unit {0}) _ _ c.map_err.result c.show_line-outcome.result c.show_line-outcome.ensures
+          (same_verdict Means _ c.run_minimal-checked.result c.map_err.result c.map_err.ensures.cases reached) (λ none. tt));
+    }
