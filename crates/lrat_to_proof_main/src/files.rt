@@ -1,20 +1,18 @@
 //! A proof, in a file, and the file of its bytes.
-ghost use Rattle.std.specs.Prelude.{◌≡◌, ◌⊎◌, ℕ, List, [], Ok, Some, IfErr, IsErr};
+ghost use Rattle.std.specs.Prelude.{◌≡◌, ℕ, List, [], Ok, Some};
 ghost use Rattle.std.specs.Io.Buffered.{writer_contents};
 ghost use Rattle.command.specs.Inputs.{bytes_named};
 ghost use Rattle.command.specs.Outputs.{Gives};
-ghost use Rattle.lrat_to_proof.specs.Conversions.{shows_unsat};
 ghost use Rattle.lrat_to_proof.specs.Widths.{bits_of};
-ghost use Rattle.lrat_to_proof.specs.declared.conversion.Conversion.TheVariants.{Open, Refuted};
-ghost use Rattle.lrat_to_proof_main.specs.Named.{HasNamed};
-ghost use Rattle.verdicts.specs.Statuses.{status_of};
+ghost use Rattle.lrat_to_proof_main.specs.Named.{EndsConversion, HasNamed};
 
 use command::{
     FaultPlace, InputNames, OutputSystem, ReadFile, Refusal, WrittenFiles, open_inputs, say_fault,
     warn_of_header,
 };
-use lrat_to_proof::{Conversion, ConvertFault, HashWidth, Ids, convert, exit_status};
+use lrat_to_proof::{Conversion, ConvertFault, HashWidth, Ids, convert};
 use std::io::BufWriter;
+use verdicts::ended;
 
 /// How ids stand in binary lines, where that is given, and how wide hashes are.
 #[derive(Clone, Copy)]
@@ -25,6 +23,11 @@ pub(crate) struct Form {
 
 /// Writes a proof as bytes. The third file is made once both others are open, and before anything
 /// is read. It is neither of them, and has its name once it is whole. Returns the exit status.
+///
+/// # Errors
+///
+/// `NotRun` if a file can't be opened; `Failed` if the conversion fails or the file can't be
+/// written whole or renamed. Standard error has the reason.
 pub(crate) fn convert_files<S: OutputSystem>(
     system: &S,
     names: InputNames<'_>,
@@ -32,20 +35,13 @@ pub(crate) fn convert_files<S: OutputSystem>(
     form: Form,
     given: &mut S::Names,
 ) -> Result<u8, Refusal>
-    ensures refuted { (text lines : List ℕ)
+    ensures ends { EndsConversion (λ conversion. (text lines : List ℕ)
         → bytes_named (S.file_bytes system.now) (S.input_bytes system.now) names.entry.cnf.now ≡ Some text
         → bytes_named (S.file_bytes system.now) (S.input_bytes system.now) names.entry.other.now ≡ Some lines
-        → S.unwritten system.now ≡ Some [] → result ≡ Ok 0
+        → S.unwritten system.now ≡ Some []
         → HasNamed form.ids (bits_of form.width) (S.place system.now proof_name.now)
-        (Some text) (Some lines) Refuted (S.renamed given.old) (S.renamed given.new) }
-    ensures opened { (text lines : List ℕ)
-        → bytes_named (S.file_bytes system.now) (S.input_bytes system.now) names.entry.cnf.now ≡ Some text
-        → bytes_named (S.file_bytes system.now) (S.input_bytes system.now) names.entry.other.now ≡ Some lines
-        → S.unwritten system.now ≡ Some [] → result ≡ Ok 3
-        → HasNamed form.ids (bits_of form.width) (S.place system.now proof_name.now)
-        (Some text) (Some lines) Open (S.renamed given.old) (S.renamed given.new) }
-    ensures rejected { result ≡ Ok 1 → S.renamed given.new ≡ S.renamed given.old }
-    ensures unnamed { IfErr result (λ status. S.renamed given.new ≡ S.renamed given.old) }
+        (Some text) (Some lines) conversion (S.renamed given.old) (S.renamed given.new))
+        (S.renamed given.new ≡ S.renamed given.old) result }
 {
     let (cnf, lrat) = open_inputs(system, names.cnf, names.other).ok_or(Refusal::NotRun)?;
     let mut files = WrittenFiles::new(system);
@@ -66,10 +62,14 @@ pub(crate) fn convert_files<S: OutputSystem>(
         say_fault(system, names, fault, place_of(fault));
     }
     warn_of_header(system, names.cnf, &lie);
-    Ok(end(system, &files, proof_name, &outcome, out, given))
+    end(system, &files, proof_name, &outcome, out, given)
 }
 
 /// Gives the proof's bytes their name, if they are whole. Returns the exit status.
+///
+/// # Errors
+///
+/// `Failed` if they are not whole or get no name.
 fn end<S: OutputSystem>(
     system: &S,
     files: &WrittenFiles<'_, S>,
@@ -77,21 +77,20 @@ fn end<S: OutputSystem>(
     outcome: &Result<Conversion, ConvertFault>,
     out: BufWriter<S::Output>,
     given: &mut S::Names,
-) -> u8
-    ensures named { (result ≡ FAILED → S.renamed given.new ≡ S.renamed given.old) }
-    ensures status { (result ≡ FAILED) ⊎ ((result ≡ status_of shows_unsat outcome.now)
+) -> Result<u8, Refusal>
+    ensures ends { EndsConversion (λ conversion. (outcome.now ≡ Ok conversion)
         × Gives (S.renamed given.old) (S.renamed given.new)
-        (S.place files.now.system.now proof_name.now) (writer_contents S.Output.contents out)) }
-    ensures failed { IsErr outcome.now → result ≡ FAILED }
+        (S.place files.now.system.now proof_name.now) (writer_contents S.Output.contents out))
+        (S.renamed given.new ≡ S.renamed given.old) result }
 {
     if outcome.is_err() {
-        return FAILED;
+        return Err(Refusal::Failed);
     }
     match files.name_buffered(given, proof_name, out) {
-        Ok(()) => exit_status(outcome),
+        Ok(()) => ended(outcome),
         Err(fault) => {
             let _ = eprintln!(system; "error writing: {fault}");
-            FAILED
+            Err(Refusal::Failed)
         }
     }
 }

@@ -4,12 +4,10 @@
 //! The name `-` of an input is standard input.
 #![tactic(auto)]
 
-ghost use Rattle.std.specs.Prelude.{◌≡◌, ℕ, List, [], ◌∷◌, None, Ok, Some, IfErr, IfSome, codes};
-ghost use Rattle.command.specs.Calls.{choices_of, operands_of, value_given};
-ghost use Rattle.command.specs.Inputs.{bytes_named};
+ghost use Rattle.std.specs.Prelude.{◌≡◌, None, IfSome, codes};
+ghost use Rattle.command.specs.Calls.{choices_of, value_given};
 ghost use Rattle.lrat_to_proof.specs.Widths.{bits_of};
-ghost use Rattle.lrat_to_proof.specs.declared.conversion.Conversion.TheVariants.{Open, Refuted};
-ghost use Rattle.lrat_to_proof_main.specs.Named.{NamesBytes};
+ghost use Rattle.lrat_to_proof_main.specs.Named.{EndsConversion, Names};
 
 mod about;
 mod files;
@@ -32,23 +30,17 @@ fn main(rt: HostRuntime) -> ExitCode {
 }
 
 /// Runs a call in a system.
+///
+/// # Errors
+///
+/// `NotRun` if the words of the call are wrong or a file can't be opened; `Failed` if an input is
+/// malformed or can't be read, a line can't be converted, or the bytes can't be written. Standard
+/// error has the reason.
 fn run<S: OutputSystem>(system: &S, call: &Call<'_>, given: &mut S::Names) -> Result<u8, Refusal>
-    ensures refuted { (cnf lrat proof text lines : List ℕ)
-        → operands_of call.now ≡ cnf ∷ lrat ∷ proof ∷ []
-        → bytes_named (S.file_bytes system.now) (S.input_bytes system.now) cnf ≡ Some text
-        → bytes_named (S.file_bytes system.now) (S.input_bytes system.now) lrat ≡ Some lines
-        → S.unwritten system.now ≡ Some [] → result ≡ Ok 0
-        → NamesBytes (choices_of call.now) (S.place system.now proof) (Some text) (Some lines) Refuted
-        (S.renamed given.old) (S.renamed given.new) }
-    ensures opened { (cnf lrat proof text lines : List ℕ)
-        → operands_of call.now ≡ cnf ∷ lrat ∷ proof ∷ []
-        → bytes_named (S.file_bytes system.now) (S.input_bytes system.now) cnf ≡ Some text
-        → bytes_named (S.file_bytes system.now) (S.input_bytes system.now) lrat ≡ Some lines
-        → S.unwritten system.now ≡ Some [] → result ≡ Ok 3
-        → NamesBytes (choices_of call.now) (S.place system.now proof) (Some text) (Some lines) Open
-        (S.renamed given.old) (S.renamed given.new) }
-    ensures rejected { result ≡ Ok 1 → S.renamed given.new ≡ S.renamed given.old }
-    ensures unnamed { IfErr result (λ status. S.renamed given.new ≡ S.renamed given.old) }
+    ensures ends { EndsConversion
+        (Names (S.file_bytes system.now) (S.input_bytes system.now) (S.unwritten system.now)
+        (S.place system.now) call.now (S.renamed given.old) (S.renamed given.new))
+        (S.renamed given.new ≡ S.renamed given.old) result }
 {
     let Some(width) = width_of(call) else {
         return Err(misused(system, &ABOUT, "--width takes a number from 1 to 64"));

@@ -1,55 +1,70 @@
 //! Sessions in files.
-ghost use Rattle.std.specs.Prelude.{◌≡◌, IfOk, OnErr};
+ghost use Rattle.std.specs.Prelude.{◌≡◌, IfErr, IfOk};
 ghost use Rattle.command.specs.Inputs.{bytes_named, source_bytes_left};
 ghost use Rattle.session_check.specs.Lines.{alone, both};
-ghost use Rattle.session_check_main.specs.Sessions.{HasRun};
+ghost use Rattle.session_check_main.specs.Sessions.{EndsSession};
+ghost use Rattle.verdicts.specs.declared.status.Refusal.TheVariants.{NotRun};
 
 use command::{Refusal, Source, System, open_file, open_inputs};
-use session_check::{Counts, RunFault, check_alone, check_session, exit_status};
+use session_check::{Counts, RunFault, check_alone, check_session};
 use std::io;
 use std::io::Write;
+use verdicts::ended;
 
-/// Checks a session that a proof tells by itself. Returns the exit status, as an Err where the
-/// proof can't be opened.
+/// Checks a session that a proof tells by itself. Returns the exit status.
+///
+/// # Errors
+///
+/// `NotRun` if the proof can't be opened, with nothing written; `Failed` with the fault of the run,
+/// after the lines of the queries before it. Standard error has the reason.
+#[tactic(auto, using(crate::proofs::Ending::ends_session))]
 pub(crate) fn check_proof<S: System, W: Write>(
     system: &S,
     name: &str,
     out: &mut W,
 ) -> Result<u8, Refusal>
-    ensures runs { IfOk result (HasRun
+    ensures ends { EndsSession
         (alone (bytes_named (S.file_bytes system.now) (S.input_bytes system.now) name.now))
-        (W.contents out.old) (W.contents out.new)) }
-    ensures silent { OnErr result (W.contents out.new ≡ W.contents out.old) }
+        (W.contents out.old) (W.contents out.new) result }
 {
     let proof = open(system, name)?;
     let outcome = check_alone(system.alloc(), proof, out);
     say_end(system, &outcome, name, name);
-    Ok(exit_status(&outcome))
+    ended(&outcome)
 }
 
 /// Checks an interaction by its proof; both are opened before anything is read. Returns the exit
-/// status, as an Err where one can't be opened.
+/// status.
+///
+/// # Errors
+///
+/// As [`check_proof`].
+#[tactic(auto, using(crate::proofs::Ending::ends_session))]
 pub(crate) fn check_interaction<S: System, W: Write>(
     system: &S,
     interaction: &str,
     proof: &str,
     out: &mut W,
 ) -> Result<u8, Refusal>
-    ensures runs { IfOk result (HasRun
+    ensures ends { EndsSession
         (both (bytes_named (S.file_bytes system.now) (S.input_bytes system.now) interaction.now)
         (bytes_named (S.file_bytes system.now) (S.input_bytes system.now) proof.now))
-        (W.contents out.old) (W.contents out.new)) }
-    ensures silent { OnErr result (W.contents out.new ≡ W.contents out.old) }
+        (W.contents out.old) (W.contents out.new) result }
 {
     let (told, proved) = open_inputs(system, interaction, proof).ok_or(Refusal::NotRun)?;
     let outcome = check_session(system.alloc(), told.file, proved.file, out);
     say_end(system, &outcome, interaction, proof);
-    Ok(exit_status(&outcome))
+    ended(&outcome)
 }
 
-/// Opens a file, or takes standard input. An Err is `NotRun` where it can't be opened.
+/// Opens a file, or takes standard input.
+///
+/// # Errors
+///
+/// `NotRun` if it can't be opened; standard error has the reason.
 fn open<S: System>(system: &S, name: &str) -> Result<Source<S::File, S::Input>, Refusal>
-    ensures { IfOk result (λ source. source_bytes_left S.File.remaining S.Input.remaining source
+    ensures err { IfErr result (λ refusal. refusal ≡ NotRun) }
+    ensures bytes { IfOk result (λ source. source_bytes_left S.File.remaining S.Input.remaining source
         ≡ bytes_named (S.file_bytes system.now) (S.input_bytes system.now) name.now) }
 {
     if name == "-" {
@@ -66,7 +81,9 @@ fn open<S: System>(system: &S, name: &str) -> Result<Source<S::File, S::Input>, 
 }
 
 /// Prints why standard input can't be read, and returns `NotRun`.
-fn say_closed<S: System>(system: &S, why: io::Error) -> Refusal {
+fn say_closed<S: System>(system: &S, why: io::Error) -> Refusal
+    ensures { result ≡ NotRun }
+{
     let _ = eprintln!(system; "cannot open -");
     let _ = eprintln!(system; "{why}");
     Refusal::NotRun

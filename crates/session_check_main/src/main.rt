@@ -4,11 +4,8 @@
 //! `--example` checks a small fixed example. The name `-` is standard input.
 #![tactic(auto)]
 
-ghost use Rattle.std.specs.Prelude.{◌≡◌, ℕ, List, [], ◌∷◌, Ok, Some, codes, false, IfOk, OnErr};
-ghost use Rattle.command.specs.Calls.{choices_of, is_given, operands_of};
-ghost use Rattle.command.specs.Inputs.{bytes_named};
-ghost use Rattle.session_check.specs.Lines.{alone, both};
-ghost use Rattle.session_check_main.specs.Sessions.{HasRun, IsShownWhole};
+ghost use Rattle.session_check.specs.Lines.{Texts};
+ghost use Rattle.session_check_main.specs.Sessions.{EndsCall, EndsSession};
 
 mod about;
 mod files;
@@ -16,10 +13,11 @@ mod files;
 use crate::about::ABOUT;
 use crate::files::{check_interaction, check_proof};
 use command::{Call, Host, Refusal, System, misused, run_program, say_cause};
-use session_check::{check_session, exit_status};
+use session_check::check_session;
 use std::io;
 use std::io::Write;
 use std::process::ExitCode;
+use verdicts::ended;
 
 /// 1 or 2 can be had, but not without 1 and 2.
 const EXAMPLE: &[u8] = b"p icnf\ni 1 2 0\nq -1 0\ns SATISFIABLE\nq -1 -2 0\ns UNSATISFIABLE\n";
@@ -33,38 +31,18 @@ fn main(rt: HostRuntime) -> ExitCode {
 }
 
 /// Runs a call in a system. The lines of the queries are written to `out`, and so are those of the
-/// example. An Err is the exit status of a call that is not run.
+/// example.
+///
+/// # Errors
+///
+/// `NotRun` if the operands are wrong or a file can't be opened; `Failed` with a fault of the
+/// session, after the lines of the queries before it. Standard error has the reason.
 fn run<S: System, W: Write>(system: &S, call: &Call<'_>, out: &mut W) -> Result<u8, Refusal>
-    ensures runs { (proof : List ℕ)
-        → operands_of call.now ≡ proof ∷ []
-        → is_given (choices_of call.now) (codes "--example") ≡ false
-        → IfOk result (HasRun
-        (alone (bytes_named (S.file_bytes system.now) (S.input_bytes system.now) proof))
-        (W.contents out.old) (W.contents out.new)) }
-    ensures runs_both { (interaction proof : List ℕ)
-        → operands_of call.now ≡ interaction ∷ proof ∷ []
-        → is_given (choices_of call.now) (codes "--example") ≡ false
-        → IfOk result (HasRun
-        (both (bytes_named (S.file_bytes system.now) (S.input_bytes system.now) interaction)
-        (bytes_named (S.file_bytes system.now) (S.input_bytes system.now) proof))
-        (W.contents out.old) (W.contents out.new)) }
-    ensures shows { (proof text : List ℕ)
-        → operands_of call.now ≡ proof ∷ []
-        → is_given (choices_of call.now) (codes "--example") ≡ false
-        → bytes_named (S.file_bytes system.now) (S.input_bytes system.now) proof ≡ Some text
-        → result ≡ Ok 0
-        → IsShownWhole (alone (Some text)) (W.contents out.old) (W.contents out.new) }
-    ensures shows_both { (interaction proof told text : List ℕ)
-        → operands_of call.now ≡ interaction ∷ proof ∷ []
-        → is_given (choices_of call.now) (codes "--example") ≡ false
-        → bytes_named (S.file_bytes system.now) (S.input_bytes system.now) interaction ≡ Some told
-        → bytes_named (S.file_bytes system.now) (S.input_bytes system.now) proof ≡ Some text
-        → result ≡ Ok 0
-        → IsShownWhole (both (Some told) (Some text)) (W.contents out.old) (W.contents out.new) }
-    ensures silent { OnErr result (W.contents out.new ≡ W.contents out.old) }
+    ensures ends { EndsCall (S.file_bytes system.now) (S.input_bytes system.now) call.now
+        (W.contents out.old) (W.contents out.new) result }
 {
     if call.has("--example") {
-        return Ok(check_example(system, out));
+        return check_example(system, out);
     }
     match call.operands.as_slice() {
         [proof] if call.has("--alone") => check_proof(system, proof.as_str(), out),
@@ -78,9 +56,12 @@ fn run<S: System, W: Write>(system: &S, call: &Call<'_>, out: &mut W) -> Result<
     }
 }
 
-/// Checks the example, and returns the exit status.
-fn check_example<S: System, W: Write>(system: &S, out: &mut W) -> u8 {
+/// Checks the example. Returns the exit status.
+fn check_example<S: System, W: Write>(system: &S, out: &mut W) -> Result<u8, Refusal>
+    ensures ends { (known : Texts)
+        × EndsSession known (W.contents out.old) (W.contents out.new) result }
+{
     let outcome = check_session(system.alloc(), EXAMPLE, EXAMPLE_PROOF, out);
     say_cause(system, &outcome);
-    exit_status(&outcome)
+    ended(&outcome)
 }
