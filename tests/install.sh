@@ -2,7 +2,7 @@
 # Installs into a fresh prefix, uses what is there, and takes it away again.
 #
 # The programs must be built: `rt ci` does it, or `rt run` in their folders. The library is built if it is not there.
-# needs: programs docs bindings tools debian packaging crates/c_library/out/libc_library.a
+# needs: programs docs bindings lib tools debian packaging crates/c_library/out/libc_library.a
 set -euo pipefail
 . "$(dirname "$0")/lib.sh"
 prefix="$work/a/a prefix"
