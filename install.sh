@@ -173,10 +173,12 @@ for name in "${programs[@]}"; do
   put_program "$name" "$work/$name"
 done
 for name in "${tools[@]}"; do
-  # (what it prints by --version is what the programs print)
-  sed "/^VERSION = /s/built from sources/$source/" "$top/tools/$name" > "$work/$name"
-  chmod +x "$work/$name"
-  put_program "$name" "$work/$name"
+  put_program "$name" "$top/tools/$name"
+done
+for name in "$top"/lib/cefindrato/*.py; do
+  # (what the tools print by --version is what the programs print)
+  sed "/^VERSION = /s/built from sources/$source/" "$name" > "$work/module"
+  put 644 "$work/module" "lib/cefindrato/${name##*/}"
 done
 if [[ $mode == dist ]]; then
   put 644 "$top/dist/PROVED" share/doc/cefindrato/PROVED

@@ -16,7 +16,8 @@ if [[ ${1:-} == --anew ]]; then
 fi
 mkdir -p "$passed"
 tests/documents.sh
-tests/layout.sh
+# (what it leaves untried is told with that of the scripts)
+tests/layout.sh || (($? == 77))
 tests/figures.sh
 python3 -B tests/run/guards.py tests/*.sh tests/*/*.sh
 tests/wrong_bodies.sh --records
@@ -38,9 +39,9 @@ tests/weak_edits.sh "$told/gate"
 archive=$(bindings/build.sh --archive)
 waiting='bindings install ipasir release'
 . tests/run/scripts.sh
-scripts=(library 'wrong_bodies --asked' portable listed_files release slurm refused_growths sessions session_check cubes pieces ipasir
+scripts=(library layout 'wrong_bodies --asked' portable listed_files release slurm refused_growths sessions session_check cubes pieces ipasir
   failing_files drat_fuzz drat_growth lrat_fuzz drat_outputs install bindings log_lines end_to_end rows drat_solvers frat large_formulas
   named_files examples records checked checked_all verified definitions proof_picture solver_runs prove_and_run memory model_check follows
-  join receipts circuit_check circuits dist packages test_run changed kept)
+  join receipts circuit_check circuits dist packages python_package test_run changed kept)
 # (two more than there are processors, since at first two wait for the library)
 run_scripts "$(($(nproc) + 2))" "${scripts[@]}"

@@ -21,7 +21,7 @@ spent() {
     echo "${*:2}: status $status, $(cat said errors)" >&2
     return 1
   fi
-  read -r user system size < time
+  read -r user system size < ./time
   seconds=$(awk "BEGIN { printf \"%.2f\", $user + $system }")
   megabytes=$(awk "BEGIN { printf \"%.0f\", $size * 1024 / 1e6 }")
 }

@@ -143,6 +143,7 @@ case_cpp() {
 # A project outside the repository, in C by pkg-config, and by the static library alone.
 case_project() {
   only_with pkg-config
+  local flags=() libraries=()
   eval "flags=($(pkg-config --cflags cefindrato)) libraries=($(pkg-config --libs cefindrato))"
   cc "${flags[@]}" -o project "$own/project.c" "${libraries[@]}"
   LD_LIBRARY_PATH=$prefix/lib ./project

@@ -220,16 +220,16 @@ case_random() {
 
 # Programs beside the script, ahead of those on PATH.
 case_beside() {
-  mkdir alone false
-  cp "$top/tools/cubes" alone
+  mkdir false
+  as_installed cubes
   for program in drat_check join_check lrat_check model_check; do
-    cp -L "bin/$program" alone
+    cp -L "bin/$program" alone/bin
     printf '#!/bin/sh\nexit 1\n' > "false/$program"
     chmod +x "false/$program"
   done
   cubes parts four.cnf two.txt beside
   echo '6 0 5 1 2 0' > beside/2.lrat
-  PATH=$work/false:$PATH says 0 '' alone/cubes check four.cnf two.txt beside 2
+  PATH=$work/false:$PATH says 0 '' alone/bin/cubes check four.cnf two.txt beside 2
 }
 
 # No input is written over, by whatever name, and of what is there only what the script wrote itself.
@@ -319,8 +319,8 @@ case_standard_output() {
   faults 'lrat_check cannot be asked: word 2 of the call is not UTF-8: \xff/1.lrat' cubes check four.cnf two.txt $'\xff' 1
 }
 
-# Packed files, by each packer that is there: a record is of what was unpacked, one that is cut off at its end is refused by its name,
-# and a packer that is missing is named.
+# Packed files, by each packer that is there: a record is of what was unpacked, and one that is cut off at its end is refused by its name.
+# None of the packers is needed but zstd, which is named where it is missing.
 case_packed() {
   mkdir lean
   ln -s "$(python3 -c 'import sys; print(sys.executable)')" lean/python3
@@ -369,8 +369,12 @@ case_packed() {
       faults "cannot unpack cut.two.txt.$end: " cubes "${words[0]}" four.cnf "cut.two.txt.$end" "${folder[@]}" "${words[@]:1}"
     done
     without=(env PATH="$work/bin:$work/lean")
-    faults "cannot run $tool, which unpacks four.cnf.$end" "${without[@]}" cubes left "four.cnf.$end" two.txt four
-    faults "cannot run $tool, which unpacks $end/2.lrat.$end" "${without[@]}" cubes check four.cnf two.txt "$end" 2
+    if [[ $tool == zstd ]]; then
+      faults "cannot run $tool, which unpacks four.cnf.$end" "${without[@]}" cubes left "four.cnf.$end" two.txt four
+      faults "cannot run $tool, which unpacks $end/2.lrat.$end" "${without[@]}" cubes check four.cnf two.txt "$end" 2
+    else
+      says 0 '' "${without[@]}" cubes check "four.cnf.$end" two.txt "$end" 2
+    fi
     faults "cannot open none.cnf.$end: No such file or directory" cubes left "none.cnf.$end" two.txt four
   done
 }

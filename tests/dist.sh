@@ -149,7 +149,7 @@ case_empty_section() {
 # A checkout without crates/; and what its programs are given: a formula that can't be satisfied, with its proofs, and one that can be.
 room=$work/room
 mkdir "$room"
-(cd "$top" && git ls-files -z --cached --others --exclude-standard -- install.sh README.md crates.txt docs tools tests | tar -c --null -T -) | tar -x -C "$room"
+(cd "$top" && git ls-files -z --cached --others --exclude-standard -- install.sh README.md crates.txt docs lib tools tests | tar -c --null -T -) | tar -x -C "$room"
 mkdir "$room/dist"
 cp "$dist"/{*.S,rt.c,Makefile,PROVED} "$room/dist/"
 mkdir "$room/files"

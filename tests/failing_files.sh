@@ -440,7 +440,7 @@ case_closed() {
 }
 
 case_claims() {
-  # shellcheck source=/dev/null
+  # shellcheck source=failing_files/claims.sh
   . "$top/tests/failing_files/claims.sh"
   fail_reads_of_claims
   fail_writes_of_claims

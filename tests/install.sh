@@ -2,7 +2,7 @@
 # Installs into a fresh prefix, uses what is there, and takes it away again.
 #
 # The programs must be built: `rt ci` does it, or `rt run` in their folders. The library is built if it is not there.
-# needs: programs docs bindings tools debian packaging crates/c_library/out/libc_library.a
+# needs: programs docs bindings lib tools debian packaging crates/c_library/out/libc_library.a
 set -euo pipefail
 . "$(dirname "$0")/lib.sh"
 prefix="$work/a/a prefix"
@@ -125,6 +125,7 @@ case_pages() {
     same "what the page of $name says beside --help" '' "$(said_beside "$name" "$usage" < "$page")"
     same "what the page of $name names" "$(printf '%s\n' "${all[@]}" | grep -vx "$name")" \
       "$(sed -n '/^\.SH SEE ALSO/,$p' "$page" | grep -o 'fB[^\]*' | sed 's/^fB//')"
+    # shellcheck source=/dev/null # as installed
     same "completions of $name" "complete -o default -W '$(words "$name" | tr '\n' ' ' | sed 's/ $//')' $name" \
       "$(. "$prefix/share/bash-completion/completions/$name" && complete -p "$name")"
     offered "$name"
@@ -205,6 +206,7 @@ case_pkg_config() {
   moved
   export PKG_CONFIG_PATH=$prefix/lib/pkgconfig
   same 'the version' "$("$prefix/bin/lrat_check" --version | cut -d ' ' -f 2)" "$(pkg-config --modversion cefindrato)"
+  local flags=() libraries=() layer_flags=()
   eval "flags=($(pkg-config --cflags cefindrato)) libraries=($(pkg-config --libs cefindrato))"
   data=("$top/tests/data/board6.cnf" "$top/tests/data/board6.lrat")
   cc -pthread "${flags[@]}" -o "$work/shared" "$top/tests/bindings/test.c" "${libraries[@]}"

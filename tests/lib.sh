@@ -177,6 +177,13 @@ on_path() {
   export PATH=$work/bin:${PATH#"$work/bin:"}
 }
 
+# as_installed TOOL..: the folder `alone`, with these tools as they are installed, and no program
+as_installed() {
+  mkdir -p alone/bin alone/lib
+  cp "${@/#/$top/tools/}" alone/bin
+  cp -R "$top/lib/cefindrato" alone/lib
+}
+
 # has PROGRAM: whether it is installed; if not, that is said, unless no package has it
 has() {
   command -v "$1" > "$work/where" || {

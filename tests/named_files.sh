@@ -112,11 +112,11 @@ case_standard_input() {
   cut_off() {
     (dd bs=1 count=14 of=/dev/null status=none && "$@") < units
   }
-  mkfifo done
+  mkfifo finished
   left() {
     local status=0
-    cat "$1" > done &
-    exec 5< done
+    cat "$1" > finished &
+    exec 5< finished
     wait
     timeout 20 "${@:2}" <&5 || status=$?
     exec 5<&-
@@ -519,7 +519,7 @@ case_claims() {
   printf 'p cnf 1 3\n1 2 0\n-1 2 0\n' > options
   lies '1 3' '2 2' options
   wants 20 's VERIFIED FOLLOWS' "$warning" "$follows" options claims refuted
-  printf 'p cnf 9 9\n2 0\n' > more
+  printf 'p cnf 9 9\n2 0\n' > ./more
   wants 1 '' $'claims: there are fewer than the header says\nin more\n'"$warning"$'\nwarning: the header of more is p cnf 9 9, but what was read is p cnf 2 1' \
     "$follows" options more refuted
   wants 1 '' $'formula: line 1: bad number\nin wrong\nbad number: x' "$follows" wrong claims refuted

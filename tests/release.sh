@@ -110,7 +110,7 @@ case_records() {
     same "the record of $folder" "$(cat "$work/one/PROVED")" "$(cat "$folder/share/doc/cefindrato/PROVED")"
     same "the licence of $folder" "$(cat "$top/LICENSE")" "$(cat "$folder/share/doc/cefindrato/LICENSE")"
     python3 -B "$top/tests/documents/links.py" "$folder/share/doc/cefindrato" || wrong=1
-    (cd "$folder" && for file in bin/*; do
+    (cd "$folder" && for file in bin/* lib/cefindrato/*.py; do
       grep -q "^$(sha256sum < "$file" | cut -d ' ' -f 1)  $file " "$work/one/PROVED" || echo "$folder/$file is not in PROVED"
     done) > "$work/missing"
     same 'what is not in the record' '' "$(cat "$work/missing")"

@@ -62,6 +62,7 @@ case_pipe() {
       wrong=1
     fi
   done
+  # shellcheck disable=SC2154 # coproc sets it
   pid=$checker_PID
   eval "exec ${checker[1]}>&-"
   wait "$pid" || wrong=1

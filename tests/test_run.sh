@@ -2,8 +2,8 @@
 # How ./test.sh runs scripts (tests/run): what fails makes it fail, also where nothing can be written; what was not tried is told and leaves
 # no note; a script runs again where something changed that it depends on, and else not. And that lists which become empty are noticed,
 # that the keys of cheap scripts have all files that these open, and that each tool that not every machine has may be missing.
-# needs: test.sh tests/run tests/figures.sh tests/figures.txt tests/weak_edits.sh tests/layout.sh tests/records.sh tests/proof_picture.sh
-# needs: tests/prove_and_run.sh tests/memory.sh tests/solver_runs.sh tests/verified.sh
+# needs: test.sh tests/run tests/figures.sh tests/figures.txt tests/weak_edits.sh tests/layout.sh .shellcheckrc tests/records.sh
+# needs: tests/proof_picture.sh tests/prove_and_run.sh tests/memory.sh tests/solver_runs.sh tests/verified.sh
 set -euo pipefail
 . "$(dirname "$0")/lib.sh"
 tree=$work/tree told=$work/told passed=$work/passed
@@ -209,7 +209,7 @@ case_keys() {
   runs 0 writes
   same 'a note of a script whose files changed' '' "$(find "$passed" -name 'writes.*')"
   # without git nothing is noted
-  rm -rf .git "$passed"/*
+  rm -rf .git "${passed:?}"/*
   GIT_CEILING_DIRECTORIES=$work runs 0 good
   noted
 }
@@ -270,7 +270,7 @@ case_figures() {
 # What reads a list fails over an empty one.
 case_empty() {
   mkdir -p empty/tests
-  cp "$top"/tests/{weak_edits,layout}.sh empty/tests
+  cp "$top"/tests/{lib,weak_edits,layout}.sh empty/tests
   cd empty
   git init -q
   : > gate
@@ -283,11 +283,30 @@ case_empty() {
   ends 0 "tests/weak_edits.sh" tests/weak_edits.sh gate
   printf 'rt: must-fail one: BAD EDIT\n12 passed, 0 failed\n' > gate
   ends 1 "tests/weak_edits.sh" tests/weak_edits.sh gate
-  ends 123 "tests/layout.sh" tests/layout.sh
+  ends 1 "no sources" tests/layout.sh --case sources
   mkdir -p crates/low/src
   echo '//! Low.' > crates/low/src/lib.rt
   git add .
-  ends 0 "tests/layout.sh" tests/layout.sh
+  ends 0 "one source" tests/layout.sh --case sources
+}
+
+# Scripts without an ending are looked at too, and where there are none, that is a fault.
+case_linters() {
+  only_with shellcheck pyflakes3
+  mkdir -p linted/{tests,tools}
+  cp "$top"/tests/{lib,layout}.sh linted/tests
+  cp "$top/.shellcheckrc" linted
+  cd linted
+  git init -q
+  ends 1 "no script in Python" tests/layout.sh --case python
+  printf '#!/usr/bin/env python3\nprint()\n' > tools/one
+  ends 0 "a script in Python" tests/layout.sh --case python
+  printf '#!/usr/bin/env python3\nimport os\n' > tools/one
+  ends 1 "an import that nothing uses" tests/layout.sh --case python
+  printf '#!/bin/sh\necho "$1"\n' > tools/one
+  ends 0 "a script of the shell" tests/layout.sh --case shell
+  printf '#!/bin/sh\nlocal one\n' > tools/one
+  ends 1 "a word that not each shell has" tests/layout.sh --case shell
 }
 
 # What cheap scripts open and run of the repository is in their keys.
@@ -324,8 +343,9 @@ case_missing() {
   done
   for name in "${cheap[@]}"; do
     ends 0 "$name with what each machine has" env PATH="$work/base" "$top/tests/$name.sh"
+    sed '/^ *#/d' "$top/tests/$name.sh" > "$work/code"
     while read -r command _; do
-      if [[ -e $work/all/$command ]] && grep -qw -e "$command" "$top/tests/$name.sh"; then
+      if [[ -e $work/all/$command ]] && grep -qw -e "$command" "$work/code"; then
         mv "$work/all/$command" "$work/hidden"
         ends 77 "$name without $command" env PATH="$work/all" "$top/tests/$name.sh"
         grep -q "^$command is not installed .*: not tried$" "$work/said" || fault "$name does not say that $command is missing"

@@ -58,9 +58,11 @@ if [[ -f $stage/lib/libcefindrato_ipasir.a ]]; then
   cp "$own/LICENSE.cadical" "$documents/"
 fi
 
-# static_programs: those of which the object is there, linked with a C library in place of the toolchain's archives; and the scripts
+# static_programs: those of which the object is there, linked with a C library in place of the toolchain's archives; and the scripts, with
+# what they share
 static_programs() {
   local program name lacking=()
+  cp "$stage"/lib/cefindrato/*.py "$work/static/lib/cefindrato/"
   musl-gcc -O2 -c -o "$work/rt.o" "$own/rt.c"
   for program in "$stage"/bin/*; do
     name=${program##*/}
@@ -93,7 +95,7 @@ wheel_library() {
 is_static=
 if has musl-gcc musl-tools 'static programs, no wheel'; then
   is_static=1
-  mkdir -p "$work/static/bin" "$work/wheel"
+  mkdir -p "$work/static/bin" "$work/static/lib/cefindrato" "$work/wheel"
   static_programs
   wheel_library
 fi
@@ -101,7 +103,7 @@ fi
 # sums FOLDER: the sum of each program and library there, and the logic in which it is proved
 sums() {
   local file logic
-  (cd "$1" && find . -path './bin/*' -o -type f \( -name 'lib*' -o -name '*.so' \)) | sed 's|^\./||' | sort | while read -r file; do
+  (cd "$1" && find . -path './bin/*' -o -path './lib/cefindrato/*.py' -o -type f \( -name 'lib*' -o -name '*.so' \)) | sed 's|^\./||' | sort | while read -r file; do
     logic=$(logic_of "$1/$file")
     printf '%s  %-26s %s\n' "$(sha256sum < "$1/$file" | cut -d ' ' -f 1)" "$file" "${logic:-not proved}"
   done

@@ -95,29 +95,28 @@ for name in sh realpath; do
 done
 ends 2 '' env PATH="$work/few" "$top/tools/checked" --all four.cnf --solver right
 because "cannot run python3, which $top/tools/checked_all needs"
-mkdir alone
-cp "$top/tools/checked" alone
-ends 2 '' env PATH="$work/few" alone/checked --all four.cnf --solver right
+as_installed checked
+ends 2 '' env PATH="$work/few" alone/bin/checked --all four.cnf --solver right
 because 'cannot run checked_all'
 # programs beside the script, ahead of those on PATH
-cp "$top/tools/checked_all" alone
-cp -L bin/{drat_check,lrat_check,model_check} alone
+cp "$top/tools/checked_all" alone/bin
+cp -L bin/{drat_check,lrat_check,model_check} alone/bin
 mkdir false
 for name in checked drat_check model_check; do
   printf '#!/bin/sh\nexit 1\n' > "false/$name"
   chmod +x "false/$name"
 done
-ends 0 "$(counts 1 0 0 0)" env PATH="$work/false:$PATH" alone/checked --all four.cnf --solver right
+ends 0 "$(counts 1 0 0 0)" env PATH="$work/false:$PATH" alone/bin/checked --all four.cnf --solver right
 # a status without its line is no verdict
 for said in '' 's VERIFIED SAT' 's VERIFIED UNSAT\nmore'; do
-  printf '#!/bin/sh\nprintf "%s\\n"\nexit 20\n' "$said" > alone/checked
-  ends 3 "$(counts 0 0 1 0)" alone/checked_all four.cnf --solver right
+  printf '#!/bin/sh\nprintf "%s\\n"\nexit 20\n' "$said" > alone/bin/checked
+  ends 3 "$(counts 0 0 1 0)" alone/bin/checked_all four.cnf --solver right
 done
 # and one that does not end when it is asked to is killed with its group
-printf '#!/bin/sh\ntrap "" TERM\necho $$ >> pids; sleep 90 & echo $! >> pids; wait\n' > alone/checked
+printf '#!/bin/sh\ntrap "" TERM\necho $$ >> pids; sleep 90 & echo $! >> pids; wait\n' > alone/bin/checked
 : > pids
 began=$SECONDS
-ends 3 "$(counts 0 0 1 0)" alone/checked_all four.cnf --solver right --limit 1
+ends 3 "$(counts 0 0 1 0)" alone/bin/checked_all four.cnf --solver right --limit 1
 if ((SECONDS - began > 60)); then
   echo "a checked that is stuck is ended after $((SECONDS - began)) s"
   wrong=1

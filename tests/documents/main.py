@@ -29,7 +29,7 @@ from links import bad_links
 from programs import source_texts, tool_texts
 from sources import calls, cited, contracts, crates, laws, lines_of, listed, text_of
 
-FOLDERS = ("benches", "bindings", "crates", "docs", "packaging", "tests", "tools")
+FOLDERS = ("benches", "bindings", "crates", "docs", "lib", "packaging", "tests", "tools")
 NAMED = re.compile(r"`((?:%s)/[\w./-]+)`" % "|".join(FOLDERS))
 PLACEHOLDER = re.compile(r"NAME|CRATE|SUBJECT|MODULE|/out/")
 LINES = re.compile(r"`([\w./-]+)` \((\d+) lines\)")

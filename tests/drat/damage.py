@@ -8,7 +8,6 @@ is only verified if the formula's units show it. Whatever is refused has to be s
 """
 
 import random
-import re
 import subprocess
 import sys
 import tempfile
@@ -29,7 +28,7 @@ def damaged(steps, share, draw):
 
 
 def main(program, cnf, proof, name):
-    formula, steps = refusal.read_formula(cnf), refusal.read_proof(proof)
+    steps = refusal.read_proof(proof)
     draw, refused, wrong = random.Random(name), 0, 0
     with tempfile.TemporaryDirectory() as folder:
         path = f"{folder}/drat"

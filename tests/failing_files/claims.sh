@@ -1,4 +1,4 @@
-# shellcheck shell=bash disable=SC2154
+# shellcheck shell=bash disable=SC2154,SC2034
 # The programs that judge claims, follows_check, minimal_check and circuit_check. Read by tests/failing_files.sh.
 
 # read_everywhere NAME STATUS LINE FAULTS COMMAND..: byte by byte, with each read failing in turn. A run with a failed read says one of the
@@ -28,7 +28,7 @@ read_everywhere() {
 # write_claims: the files that the programs read. No proof is that of a formula which unit propagation refutes.
 write_claims() {
   mkdir -p "$work/claims"
-  cd "$work/claims"
+  cd "$work/claims" || exit
   printf 'p cnf 2 4\n1 2 0\n1 -2 0\n-1 2 0\n-1 -2 0\n' > cnf
   printf 'p cnf 2 2\n1 0\n2 0\n' > claims
   printf '1 0\n0\n' > proof

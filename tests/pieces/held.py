@@ -15,7 +15,7 @@ import tempfile
 
 sys.path.insert(0, os.path.join(os.path.dirname(__file__), "..", "drat"))
 from dpr import is_redundant_by
-from formulas import dimacs, drat
+from formulas import dimacs
 from fuzz import Case, is_redundant, is_satisfiable, is_tautology, propagate, unit_reason
 
 HELD, MISSING, REFUTED = "s VERIFIED PIECE\n", "s NOT VERIFIED\n", "s VERIFIED UNSAT\n"

@@ -20,13 +20,16 @@ import shutil
 import subprocess
 import sys
 
-FOLDERS = "benches|bindings|crates|debian|dist|docs|packaging|tests|tools"
+FOLDERS = "benches|bindings|crates|debian|dist|docs|lib|packaging|tests|tools"
 NAMED = re.compile(rf"(?<![\w.-])(?:{FOLDERS})/[\w./+-]*")
 NEEDS = re.compile(r"(?m)^# needs: (.*)$")
-IMPORT = re.compile(r"(?m)^\s*(?:import|from) ([\w, ]+)")
+PYTHON = re.compile(r"#!.*python")
+IMPORT = re.compile(r"(?m)^\s*(?:import|from) ([\w., ]+)")
 INCLUDE = re.compile(r'(?m)^\s*#\s*include ["<]([^">]+)')
 WORD = re.compile(r"(?<![\w.])\w[\w+-]*")
 UNREAD = re.compile(r"crates/[^/]+/(proofs|wrong-bodies)/")
+# Tools that are named by their paths alone, since their names are common words.
+BY_PATH = {"changed", "kept", "pages"}
 BESIDE = ("o", "bc", "bc.words")
 OPTIONAL = os.path.join(os.path.dirname(os.path.abspath(__file__)), "optional.txt")
 
@@ -67,8 +70,8 @@ class Key:
         with open(OPTIONAL, encoding="utf-8") as file:
             self.optional = {line.split()[0] for line in file if not line.startswith("#")}
         self.of_git = False
-        own = f"tests/{script}.sh"
-        self.todo = [own, "tests/lib.sh", *(it for it in files if it.startswith(f"tests/{script}/"))]
+        self.own = f"tests/{script}.sh"
+        self.todo = [self.own, "tests/lib.sh", *(it for it in files if it.startswith(f"tests/{script}/"))]
         while self.todo:
             self.take(self.todo.pop())
 
@@ -76,11 +79,13 @@ class Key:
         if path in self.found or not os.path.isfile(path):
             return
         self.found.add(path)
-        if path.startswith("crates/"):
+        # (test.sh names each script, and no script runs it)
+        if path.startswith("crates/") or path == "test.sh":
             return
         code = code_of(path)
-        for needed in NEEDS.findall(code):
-            for word in needed.split():
+        for word in " ".join(NEEDS.findall(code)).split():
+            # (of another script that is named, `all` is not meant)
+            if word != "all" or path == self.own:
                 self.need(word)
         for name in NAMED.findall(code):
             self.name(name.rstrip("./"))
@@ -91,11 +96,12 @@ class Key:
                 self.program(program)
         self.todo += [it for it in self.files if "/" not in it and it in code]
         if path.startswith("tools/") or re.search(r"(?m)\bon_path |\btools\b", code):
-            self.todo += [it for it in self.files if re.fullmatch(r"tools/\w+", it) and it[len("tools/") :] in words]
-        if path.endswith(".py"):
-            for module in {it.strip() for names in IMPORT.findall(code) for it in re.split(r",| import ", names)}:
+            self.todo += [it for it in self.files if re.fullmatch(r"tools/\w+", it) and it[len("tools/") :] in words - BY_PATH]
+        if path.endswith(".py") or PYTHON.match(code):
+            for module in {it.strip(" .") for names in IMPORT.findall(code) for it in re.split(r",| import ", names)}:
                 beside = os.path.join(os.path.dirname(path), f"{module}.py")
-                self.todo += [beside] if os.path.isfile(beside) else [it for it in self.files if it.endswith(f"/{module}.py")]
+                others = (f"/{module}.py", f"lib/{module}/__init__.py")
+                self.todo += [beside] if os.path.isfile(beside) else [it for it in self.files if it.endswith(others)]
         for header in INCLUDE.findall(code):
             self.todo += [it for it in self.files if os.path.basename(it) == os.path.basename(header)]
         self.of_git = self.of_git or re.search(r"(?<![\w./])git (?!ls-files)", code) is not None

@@ -40,6 +40,8 @@ def read(name):
 def packed(version, top, static, library):
     """The files of the wheel, with their modes."""
     info, scripts = f"cefindrato-{version}.dist-info", f"cefindrato-{version}.data/scripts"
+    # (what scripts share is beside the folder that they are installed into)
+    shared = f"cefindrato-{version}.data/data/lib/cefindrato"
     documents = f"{static}/share/doc/cefindrato"
     package = f"{top}/bindings/python/cefindrato"
     about = read(f"{package}/__init__.py").decode().split('"""')[1].strip()
@@ -47,6 +49,8 @@ def packed(version, top, static, library):
     files["cefindrato/libcefindrato.so"] = (read(library), 0o755)
     for name in sorted(os.listdir(f"{static}/bin")):
         files[f"{scripts}/{name}"] = (read(f"{static}/bin/{name}"), 0o755)
+    for name in sorted(os.listdir(f"{static}/lib/cefindrato")):
+        files[f"{shared}/{name}"] = (read(f"{static}/lib/cefindrato/{name}"), 0o644)
     files[f"{info}/METADATA"] = (METADATA.format(version=version, about=about).encode(), 0o644)
     files[f"{info}/WHEEL"] = (WHEEL.encode(), 0o644)
     for name in ("LICENSE", "LICENSE.musl", "PROVED"):
