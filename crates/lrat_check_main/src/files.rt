@@ -1,138 +1,73 @@
 //! A whole proof, in a file.
-ghost use Rattle.std.specs.Prelude.{◌≡◌, ◌≢◌, ℕ, List, [], IfErr, IfOk, Ok, Some};
-ghost use Rattle.std.specs.Io.KnownBytes.{Appends};
+ghost use Rattle.std.specs.Prelude.{◌≡◌, None};
 ghost use Rattle.command.specs.Calls.{choices_of};
-ghost use Rattle.command.specs.Inputs.{bytes_named};
-ghost use Rattle.receipt_files.specs.Named.{GivesReceipt, LeavesReceipt, refuted_of};
-ghost use Rattle.sat_formula.specs.Refuted.{IsRefuted};
-ghost use Rattle.verdicts.specs.Verdicts.{shown_line};
-ghost use Rattle.verdicts.specs.declared.verdict.Verdict.TheVariants.{NotVerified, Verified};
+ghost use Rattle.lrat_check_main.specs.Meaning.{Means, piece_of};
+ghost use Rattle.receipt_files.specs.Named.{Keeps};
+ghost use Rattle.verdicts.specs.Pieces.{piece_line, shows_wanted};
+ghost use Rattle.verdicts.specs.Statuses.{Ends, status_shown};
 
 use crate::about::ABOUT;
+use crate::fault::{place_of, say_cost, unread_formula};
 use command::{
-    Call, Cost, FaultPlace, InputNames, OutputSystem, ReadFile, Refusal, StatsForm, WrittenFiles,
-    open_inputs, progress_of, say_fault, warn_of_header,
+    Call, Cost, FaultPlace, OutputSystem, ReadFile, Refusal, WrittenFiles, ids_of, input_names,
+    open_inputs, progress_of, say_end,
 };
-use lrat_check::{Ids, RunFault, Verdict, exit_status, run_check};
-use receipt_files::{hold_digested, refuted_by, show, whole_receipt};
-use sat_formula::{DimacsFault, LyingHeader};
-use std::io;
+use lrat_check::{Ids, PieceFault, PieceVerdict, RunFault, Verdict, run_check};
+use receipt_files::{hold_digested, keep_receipt, piece_receipt, whole_receipt};
 use std::io::Write;
+use verdicts::{Unshown, ended, show_line};
 
 /// Checks a proof. All files are open before anything is read. The formula is read whole, and let
 /// go once its clauses are taken. A receipt is whole and has its name before the verdict's line is
 /// written. Returns the exit status.
 pub(crate) fn check_files<S: OutputSystem, W: Write>(
     system: &S,
-    names: InputNames<'_>,
-    ids: Option<Ids>,
     call: &Call<'_>,
     given: &mut S::Names,
     out: &mut W,
 ) -> Result<u8, Refusal>
-    ensures refutes { (text : List ℕ)
-        → bytes_named (S.file_bytes system.now) (S.input_bytes system.now) names.entry.cnf.now ≡ Some text
-        → result ≡ Ok 0 → IsRefuted text }
-    ensures line { result ≡ Ok 0
-        → Appends (W.contents out.old) (W.contents out.new) (shown_line Verified) }
-    ensures receipt { (text : List ℕ)
-        → bytes_named (S.file_bytes system.now) (S.input_bytes system.now) names.entry.cnf.now ≡ Some text
-        → S.unwritten system.now ≡ Some [] → result ≡ Ok 0
-        → GivesReceipt (S.place system.now) (choices_of call.now) (refuted_of text)
-        (S.renamed given.old) (S.renamed given.new) }
-    ensures unnamed { result ≢ Ok 0 → result ≢ Ok 1 → S.renamed given.new ≡ S.renamed given.old }
-    ensures silent { IfErr result (λ status. out.new ≡ out.old) }
-    ensures unshown { (text : List ℕ)
-        → bytes_named (S.file_bytes system.now) (S.input_bytes system.now) names.entry.cnf.now ≡ Some text
-        → S.unwritten system.now ≡ Some [] → result ≡ Ok 1
-        → LeavesReceipt (S.place system.now) (choices_of call.now) (shown_line NotVerified)
-        (shown_line Verified) (IsRefuted text) (refuted_of text)
-        (W.contents out.old) (W.contents out.new) (S.renamed given.old) (S.renamed given.new) }
+    ensures ends { Ends piece_line (status_shown shows_wanted)
+        (Means (S.file_bytes system.now) (S.input_bytes system.now) call.now None
+        (Keeps (S.unwritten system.now) (S.place system.now) (choices_of call.now)
+        (S.renamed given.old) (S.renamed given.new)) (S.renamed given.new ≡ S.renamed given.old))
+        (S.renamed given.new ≡ S.renamed given.old)
+        (W.contents out.old) (W.contents out.new) result }
 {
     let cost = Cost::from_now(system);
+    let ids = ids_of(system, &ABOUT, call, Ids::Plain, Ids::Doubled)?;
+    let names = input_names(system, &ABOUT, call)?;
     let (cnf, proof) = open_inputs(system, names.cnf, names.other).ok_or(Refusal::NotRun)?;
     let mut files = WrittenFiles::new(system);
     let inputs = [ReadFile::of(system, &cnf), ReadFile::of(system, &proof)];
     let receipt = files.create_wanted(call.value("--receipt"), &inputs)?;
+    let is_kept = receipt.is_some();
     let unread = FaultPlace::Formula(None);
-    let cnf = hold_digested(
-        system,
-        names,
-        cnf,
-        unread,
-        unread_formula,
-        receipt.is_some(),
-    )?;
+    let cnf = hold_digested(system, names, cnf, unread, unread_formula, is_kept)?;
     let progress = progress_of(system, &ABOUT, call);
     let proof = proof.told(system, &progress);
     let mut lie = None;
-    let checked = run_check(
-        system.alloc(),
-        cnf.held,
-        proof,
-        ids,
-        &mut io::sink(),
-        &mut lie,
-    );
-    let said = refuted_by(cnf.digest);
+    let checked = as_piece(run_check(system.alloc(), cnf.held, proof, ids, &mut lie));
+    let said = piece_receipt((cnf.digest, None), &checked);
     let receipt = whole_receipt(system, call, receipt, said, &checked)?;
-    let line = line_of(&checked);
-    let outcome = show(&files, call, receipt, checked, line, unwritten, given, out);
-    say_outcome(system, names, &outcome, &lie);
+    let named = keep_receipt(&files, call, receipt, checked, given);
+    let outcome = show_line(named, out);
+    // No file has target clauses.
+    let place = place_of(&outcome, "");
+    say_end(system, names, &outcome, place, &lie);
     say_cost(system, call, &outcome, cost);
-    Ok(exit_status(&outcome))
+    ended(&outcome)
 }
 
-/// Returns the line of a verdict, if there is one.
-fn line_of(checked: &Result<Verdict, RunFault>) -> &'static [u8]
-    ensures { IfOk checked.now (λ verdict. result.now ≡ shown_line verdict) }
+/// Returns the result of a run over a whole proof as one over a piece, whose only target clause is
+/// the empty one.
+pub(crate) fn as_piece(
+    checked: Result<Verdict, RunFault>,
+) -> Result<PieceVerdict, Unshown<PieceFault>>
+    ensures { result ≡ piece_of checked }
 {
     match checked {
-        Ok(verdict) => verdict.line(),
-        Err(_) => b"",
-    }
-}
-
-/// Says why a run has no verdict, and of a header that does not match.
-fn say_outcome<S: OutputSystem>(
-    system: &S,
-    names: InputNames<'_>,
-    outcome: &Result<Verdict, RunFault>,
-    lie: &Option<LyingHeader>,
-) {
-    if let Err(fault) = outcome {
-        say_fault(system, names, fault, place_of(fault));
-    }
-    warn_of_header(system, names.cnf, lie);
-}
-
-/// Prints what a run cost, if the call asks for it and the formula was read whole.
-fn say_cost<S: OutputSystem>(
-    system: &S,
-    call: &Call<'_>,
-    outcome: &Result<Verdict, RunFault>,
-    cost: Cost,
-) {
-    if let Some(form) = StatsForm::of(call)
-        && !matches!(outcome, Err(RunFault::Formula(_)))
-    {
-        cost.say(system, form, &[]);
-    }
-}
-
-pub(crate) fn unread_formula(fault: io::Error) -> RunFault {
-    RunFault::Formula(DimacsFault::of_error(fault))
-}
-
-/// Returns the fault of a verdict that was reached and not shown.
-pub(crate) fn unwritten(fault: io::Error) -> RunFault {
-    RunFault::Write(fault)
-}
-
-pub(crate) fn place_of(fault: &RunFault) -> FaultPlace<'static> {
-    match fault {
-        RunFault::Formula(fault) => FaultPlace::in_formula(fault),
-        RunFault::Proof(_) => FaultPlace::LratProof,
-        RunFault::Write(_) => FaultPlace::Elsewhere,
+        Ok(Verdict::Verified) => Ok(PieceVerdict::Refuted),
+        Ok(Verdict::NotVerified) => Ok(PieceVerdict::NotCarried),
+        Err(fault) => Err(Unshown::Fault(PieceFault::Run(fault))),
     }
 }

@@ -1,17 +1,13 @@
-use Rattle.std.proofs.Common.{◌≡◌, subst, Result, IfOk}
-use Rattle.std.specs.Io.KnownBytes.{Appends}
-use Rattle.lrat_check.specs.declared.fault.RunFault.{RunFault}
-use Rattle.verdicts.proofs.StatusLemmas.{status_zero}
+use Rattle.std.proofs.Common.{◌≢◌}
+use Rattle.lrat_check_main.proofs.Meant.{no_piece}
 use Rattle.lrat_check_main.proofs.check_example.Goals as goal
-use Rattle.verdicts.specs.Statuses.{status_of}
-use Rattle.verdicts.specs.Verdicts.{shown_line, shows_unsat}
-use Rattle.verdicts.specs.declared.verdict.Verdict.{Verdict}
+use Rattle.verdicts.proofs.Ending.{ends_shown}
+use Rattle.verdicts.specs.Pieces.{piece_line, shows_wanted}
+use Rattle.verdicts.specs.declared.piece.PieceVerdict.TheVariants.{Carried}
 
--- the line is that of the only verdict with this status
 pub returns : goal.returns
-returns g c well =
-    let status = c.exit_status.ensures in
-    let zero : status_of shows_unsat c.run_check-outcome.result ≡ 0 = cc in
-    subst (λ (r : Result Verdict RunFault). IfOk r (λ verdict.
-    Appends (g.W.Write.contents c.args.out.now) (g.W.Write.contents c.run_check-outcome.new.out) (shown_line verdict)))
-    (status_zero c.run_check-outcome.result zero) c.run_check-outcome.ensures.line
+returns g c = record {
+  ends = rw c.ended.ensures
+      (ends_shown piece_line shows_wanted (λ verdict. verdict ≢ Carried) (Unit {0}) _ _ c.as_piece-checked.result c.show_line-outcome.result c.show_line-outcome.ensures
+      (rw c.as_piece-checked.ensures (no_piece c.run_check.result)) (λ refused. tt));
+}
