@@ -5,15 +5,17 @@
 //! verdict is short, and a program of one's own may begin as this one.
 #![tactic(auto)]
 
-ghost use Rattle.std.specs.Prelude.{◌≡◌, ℕ, List, Some};
-ghost use Rattle.model_check.specs.Models.{IsSatisfiedBy};
+ghost use Rattle.first_example.specs.Meaning.{Means};
+ghost use Rattle.model_check.specs.Verdicts.{shown_line, shows_sat};
+ghost use Rattle.verdicts.specs.Statuses.{Ends, status_shown};
 
-use model_check::{exit_status, run_check};
+use model_check::run_check;
 use std::alloc::Global;
 use std::fs::File;
 use std::io::{Read, Write};
 use std::process::ExitCode;
 use std::{env, io};
+use verdicts::{Refusal, Unshown, ended, show_line};
 
 const USAGE: &str = "first_example CNF ANSWER";
 
@@ -40,18 +42,27 @@ fn run(rt: &HostRuntime) -> io::Result<u8> {
     };
     let cnf = File::open(rt, cnf.as_str())?;
     let answer = File::open(rt, answer.as_str())?;
-    Ok(check(rt.alloc(), cnf, answer, &mut io::writer(rt)))
+    match check(rt.alloc(), cnf, answer, &mut io::writer(rt)) {
+        Ok(status) => Ok(status),
+        Err(refusal) => Ok(refusal.status()),
+    }
 }
 
 /// Checks an answer, prints the verdict, and returns the exit status.
+///
+/// # Errors
+///
+/// `Failed` if there is no verdict, or if its line could not be written.
 fn check<F: Read + Drop, P: Read + Drop, W: Write>(
     alloc: Global,
     cnf: F,
     answer: P,
     out: &mut W,
-) -> u8
-    ensures satisfies { (text said : List ℕ) → F.remaining cnf ≡ Some text
-        → P.remaining answer ≡ Some said → result ≡ 0 → IsSatisfiedBy text said }
+) -> Result<u8, Refusal>
+    ensures ends { Ends shown_line (status_shown shows_sat)
+        (Means (F.remaining cnf) (P.remaining answer)) (Unit {0})
+        (W.contents out.old) (W.contents out.new) result }
 {
-    exit_status(&run_check(alloc, cnf, answer, out, &mut None))
+    let checked = run_check(alloc, cnf, answer, &mut None).map_err(Unshown::Fault);
+    ended(&show_line(checked, out))
 }

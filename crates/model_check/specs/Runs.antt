@@ -1,8 +1,5 @@
 -- Runs of an answer after a formula.
 --     IsCheckRun cnf answer r      the verdict on the two texts, or why there is none
---     IsRefusedRun r      the answer or the formula was rejected
---     IsUnwritten r      the verdict's line was not written whole
---     BeginsLine cnf answer old new      what was written then
 --     RunTellsLie cnf r told      this is reported of the formula's header
 use Rattle.std.specs.Prelude.{◌≡◌, ℕ, List, Option, Some, None, Result, Ok, Err}
 use Rattle.std.specs.Option.{option_map}
@@ -11,14 +8,13 @@ use Rattle.sat_formula.specs.declared.fault.DimacsFault.{DimacsFault}
 use Rattle.sat_formula.specs.Lines as dimacs
 use Rattle.sat_formula.specs.Whole.{FailsAfter}
 use Rattle.sat_formula.specs.Lies.{IsLie}
-use Rattle.whole_writes.specs.Beginnings.{AppendsBeginning}
 use Rattle.answer_text.specs.Answers.{Lists}
 use Rattle.answer_text.specs.Literals.{IsConsistent, listed}
 use Rattle.answer_text.specs.Reading.{IsOutcome, FailsBy}
-use Rattle.model_check.specs.Verdicts.{IsJudged, shown_line}
+use Rattle.model_check.specs.Verdicts.{IsJudged}
 use Rattle.model_check.specs.declared.whole.CutFormula.{CutFormula}
 use Rattle.model_check.specs.declared.fault.RunFault.{RunFault}
-use Rattle.model_check.specs.declared.fault.RunFault.TheVariants.{Answer, Formula, Cut, Write}
+use Rattle.model_check.specs.declared.fault.RunFault.TheVariants.{Answer, Formula, Cut}
 use Rattle.model_check.specs.declared.verdict.Verdict.{Verdict}
 
 -- the answer lists these literals, of which no two are opposite, the verdict is that on them and the formula, and this is missing of it
@@ -36,30 +32,12 @@ pub record IsAnswered (cnf answer : Option (List ℕ)) (fault : DimacsFault) : T
   pub clauses : List (List ℕ)
   pub fails : FailsAfter (option_map dimacs.outcome_of cnf) clauses fault
 
--- the run over both texts: the fault of the answer, then that of the formula, then what is missing of it, then the verdict, written or not
+-- the run over both texts: the fault of the answer, then that of the formula, then what is missing of it, then the verdict
 abbrev pub IsCheckRun : Option (List ℕ) → Option (List ℕ) → Result Verdict RunFault → Type 0
 IsCheckRun cnf answer (Ok verdict) = IsShown cnf answer verdict None
 IsCheckRun cnf answer (Err (Answer fault)) = FailsBy answer fault
 IsCheckRun cnf answer (Err (Formula fault)) = IsAnswered cnf answer fault
 IsCheckRun cnf answer (Err (Cut cut)) = (verdict : Verdict) × IsShown cnf answer verdict (Some cut)
-IsCheckRun cnf answer (Err (Write cause)) = (verdict : Verdict) × IsShown cnf answer verdict None
-
--- the answer or the formula was rejected
-abbrev pub IsRefusedRun : Result Verdict RunFault → Type 0
-IsRefusedRun (Ok verdict) = ⊥
-IsRefusedRun (Err (Write cause)) = ⊥
-IsRefusedRun r = Unit {0}
-
--- there is a verdict, and its line was not written whole
-abbrev pub IsUnwritten : Result Verdict RunFault → Type 0
-IsUnwritten (Err (Write cause)) = Unit {0}
-IsUnwritten r = ⊥
-
--- an output grew by a beginning of the line of the verdict on the two texts
-pub record BeginsLine (cnf answer old new : Option (List ℕ)) : Type 0 where
-  pub verdict : Verdict
-  pub shown : IsShown cnf answer verdict None
-  pub begins : AppendsBeginning old new (shown_line verdict)
 
 -- the mismatch of the header, if the formula was read whole; else nothing
 abbrev pub RunTellsLie : Option (List ℕ) → Result Verdict RunFault → Option LyingHeader → Type 0

@@ -2,7 +2,6 @@
 use crate::whole::CutFormula;
 use answer_text::AnswerFault;
 use sat_formula::DimacsFault;
-use std::io;
 use thiserror::Error;
 
 /// Why a run has no verdict.
@@ -17,7 +16,4 @@ pub enum RunFault {
     /// The formula was read to its end, and is not whole.
     #[error("formula: {0}")]
     Cut(CutFormula),
-    /// The verdict was reached, but its line could not be written.
-    #[error("error writing: {0}")]
-    Write(io::Error),
 }

@@ -1,4 +1,4 @@
-//! Whether the literals of a solver's answer satisfy a formula, with a verdict in one line.
+//! Whether the literals of a solver's answer satisfy a formula.
 #![tactic(auto)]
 
 mod clauses;

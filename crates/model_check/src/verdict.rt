@@ -2,7 +2,10 @@
 ghost use Rattle.std.specs.Prelude.{◌≡◌};
 ghost use Rattle.model_check.specs.Verdicts.{shown_line, shows_sat};
 
-use verdicts::Claims;
+use std::io;
+use std::io::Write;
+use verdicts::{Claims, Shown};
+use whole_writes::write_whole;
 
 /// Whether the literals of an answer satisfy a formula.
 #[derive(Clone, Copy, Debug, PartialEq, Eq)]
@@ -32,5 +35,13 @@ impl Claims for Verdict {
 
     fn claims(&self) -> bool {
         matches!(self, Verdict::Verified)
+    }
+}
+
+impl Shown for Verdict {
+    ghost line = { shown_line };
+
+    fn write_line<W: Write>(&self, out: &mut W) -> io::Result<()> {
+        write_whole(out, self.line())
     }
 }

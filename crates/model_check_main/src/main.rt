@@ -5,27 +5,24 @@
 //! example. The name `-` is standard input.
 #![tactic(auto)]
 
-ghost use Rattle.std.specs.Prelude.{◌≡◌, ◌≢◌, ℕ, List, [], ◌∷◌, Ok, Some, codes, false, IfErr};
-ghost use Rattle.std.specs.Io.KnownBytes.{Appends};
-ghost use Rattle.command.specs.Calls.{choices_of, is_given, operands_of};
-ghost use Rattle.command.specs.Inputs.{bytes_named};
-ghost use Rattle.model_check.specs.Models.{IsSatisfiedBy};
-ghost use Rattle.model_check.specs.Verdicts.{shown_line};
-ghost use Rattle.model_check.specs.declared.verdict.Verdict.TheVariants.{Verified};
-ghost use Rattle.receipt_files.specs.Named.{GivesReceipt, LeavesReceipt, satisfied_of};
+ghost use Rattle.std.specs.Prelude.{◌≡◌};
+ghost use Rattle.command.specs.Calls.{choices_of};
+ghost use Rattle.model_check.specs.Verdicts.{shown_line, shows_sat};
+ghost use Rattle.model_check_main.specs.Meaning.{Means};
+ghost use Rattle.receipt_files.specs.Named.{Keeps};
+ghost use Rattle.verdicts.specs.Statuses.{Ends, status_shown};
 
 mod about;
 mod files;
 
 use crate::about::ABOUT;
 use crate::files::check_files;
-use command::{
-    Call, HostNames, OutputSystem, Refusal, System, input_names, run_program, say_cause,
-};
-use model_check::{exit_status, run_check};
+use command::{Call, HostNames, OutputSystem, Refusal, System, run_program, say_cause};
+use model_check::run_check;
 use std::io;
 use std::io::Write;
 use std::process::ExitCode;
+use verdicts::{Unshown, ended, show_line};
 
 /// 1 or 2, not 1 or 3, not 2 or not 3.
 const EXAMPLE_FORMULA: &[u8] = b"p cnf 3 3\n1 2 0\n-1 3 0\n-2 -3 0\n";
@@ -46,45 +43,27 @@ fn run<S: OutputSystem, W: Write>(
     given: &mut S::Names,
     out: &mut W,
 ) -> Result<u8, Refusal>
-    ensures satisfies { (cnf answer text said : List ℕ)
-        → operands_of call.now ≡ cnf ∷ answer ∷ []
-        → is_given (choices_of call.now) (codes "--example") ≡ false
-        → bytes_named (S.file_bytes system.now) (S.input_bytes system.now) cnf ≡ Some text
-        → bytes_named (S.file_bytes system.now) (S.input_bytes system.now) answer ≡ Some said
-        → result ≡ Ok 0 → IsSatisfiedBy text said }
-    ensures line { result ≡ Ok 0
-        → Appends (W.contents out.old) (W.contents out.new) (shown_line Verified) }
-    ensures receipt { (cnf answer text : List ℕ)
-        → operands_of call.now ≡ cnf ∷ answer ∷ []
-        → is_given (choices_of call.now) (codes "--example") ≡ false
-        → bytes_named (S.file_bytes system.now) (S.input_bytes system.now) cnf ≡ Some text
-        → S.unwritten system.now ≡ Some [] → result ≡ Ok 0
-        → GivesReceipt (S.place system.now) (choices_of call.now) (satisfied_of text)
-        (S.renamed given.old) (S.renamed given.new) }
-    ensures unnamed { result ≢ Ok 0 → result ≢ Ok 1 → S.renamed given.new ≡ S.renamed given.old }
-    ensures silent { IfErr result (λ status. out.new ≡ out.old) }
-    ensures unshown { (cnf answer text said : List ℕ)
-        → operands_of call.now ≡ cnf ∷ answer ∷ []
-        → is_given (choices_of call.now) (codes "--example") ≡ false
-        → bytes_named (S.file_bytes system.now) (S.input_bytes system.now) cnf ≡ Some text
-        → bytes_named (S.file_bytes system.now) (S.input_bytes system.now) answer ≡ Some said
-        → S.unwritten system.now ≡ Some [] → result ≡ Ok 1
-        → LeavesReceipt (S.place system.now) (choices_of call.now) (codes "s NOT VERIFIED\n")
-        (shown_line Verified) (IsSatisfiedBy text said) (satisfied_of text)
-        (W.contents out.old) (W.contents out.new) (S.renamed given.old) (S.renamed given.new) }
+    ensures ends { Ends shown_line (status_shown shows_sat)
+        (Means (S.file_bytes system.now) (S.input_bytes system.now) call.now
+        (Keeps (S.unwritten system.now) (S.place system.now) (choices_of call.now)
+        (S.renamed given.old) (S.renamed given.new)) (S.renamed given.new ≡ S.renamed given.old))
+        (S.renamed given.new ≡ S.renamed given.old)
+        (W.contents out.old) (W.contents out.new) result }
 {
     if call.has("--example") {
-        return Ok(check_example(system, out));
+        check_example(system, out)
+    } else {
+        check_files(system, call, given, out)
     }
-    let names = input_names(system, &ABOUT, call)?;
-    check_files(system, names, call, given, out)
 }
 
-fn check_example<S: System, W: Write>(system: &S, out: &mut W) -> u8
-    ensures { result ≡ 0 → Appends (W.contents out.old) (W.contents out.new) (shown_line Verified) }
+fn check_example<S: System, W: Write>(system: &S, out: &mut W) -> Result<u8, Refusal>
+    ensures ends { Ends shown_line (status_shown shows_sat) (λ verdict. Unit {0}) (Unit {0})
+        (W.contents out.old) (W.contents out.new) result }
 {
     let (cnf, answer) = (EXAMPLE_FORMULA, EXAMPLE_ANSWER);
-    let outcome = run_check(system.alloc(), cnf, answer, out, &mut None);
+    let checked = run_check(system.alloc(), cnf, answer, &mut None).map_err(Unshown::Fault);
+    let outcome = show_line(checked, out);
     say_cause(system, &outcome);
-    exit_status(&outcome)
+    ended(&outcome)
 }
