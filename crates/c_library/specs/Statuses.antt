@@ -44,12 +44,11 @@ lines_status (lines.Refused line cause) = 1
 lines_status lines.OutOfMemory = 4
 lines_status lines.Failed = 1
 
--- the line of the verdict is written into nothing, which needs no memory
+-- a fault is that of the formula or of the proof
 abbrev pub lrat_status : Result Verdict lrat.RunFault → ℕ
 lrat_status (Ok verdict) = status_of {E = lrat.RunFault} shows_unsat (Ok verdict)
 lrat_status (Err (lrat_fault.Formula fault)) = formula_status fault
 lrat_status (Err (lrat_fault.Proof fault)) = lines_status fault
-lrat_status (Err (lrat_fault.Write cause)) = 1
 
 -- ---- DRAT, DPR, FRAT and LPR
 
@@ -89,4 +88,3 @@ model_status (Ok verdict) = status_of {E = model.RunFault} shows_sat (Ok verdict
 model_status (Err (model_fault.Answer fault)) = read_status fault
 model_status (Err (model_fault.Formula fault)) = formula_status fault
 model_status (Err (model_fault.Cut cut)) = 1
-model_status (Err (model_fault.Write cause)) = 1

@@ -13,7 +13,6 @@ use lrat_check::{RunFault, Verdict, exit_status, run_check};
 use lrat_checker::LratFault;
 use sat_formula::DimacsFault;
 use std::alloc::Global;
-use std::io::sink;
 
 /// The result of a check of an LRAT proof.
 #[repr(C)]
@@ -41,7 +40,7 @@ pub extern "C" fn cefindrato_lrat_check(
         × IfOk r (λ verdict. IsNothing text.old text.new result.text) }
     ensures text { (said : List ℕ) × IsPlaced said text.old text.new result.text }
 {
-    let outcome = run_check(alloc, cnf, proof, None, &mut sink(), &mut None);
+    let outcome = run_check(alloc, cnf, proof, None, &mut None);
     LratAnswer {
         status: status(&outcome),
         text: place_text(alloc, &outcome, text),

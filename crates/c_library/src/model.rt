@@ -14,7 +14,6 @@ use answer_text::AnswerFault;
 use model_check::{RunFault, Verdict, exit_status, run_check};
 use sat_formula::DimacsFault;
 use std::alloc::Global;
-use std::io::sink;
 
 /// The result of a check of a solver's answer.
 #[repr(C)]
@@ -49,7 +48,7 @@ pub extern "C" fn cefindrato_model_check(
         × IfOk r (λ verdict. IsNothing text.old text.new result.text) }
     ensures text { (said : List ℕ) × IsPlaced said text.old text.new result.text }
 {
-    let outcome = run_check(alloc, cnf, answer, &mut sink(), &mut None);
+    let outcome = run_check(alloc, cnf, answer, &mut None);
     let (clause, line) = unmet(&outcome);
     ModelAnswer {
         status: status(&outcome),
