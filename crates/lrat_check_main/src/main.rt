@@ -23,7 +23,7 @@ mod piece;
 use crate::about::ABOUT;
 use crate::files::{as_piece, check_files};
 use crate::piece::check_piece;
-use command::{EXAMPLE_FORMULA, EXAMPLE_LRAT, Call, Host, HostNames, OutputSystem, Refusal, System, run_program, say_cause};
+use command::{Call, EXAMPLE_FORMULA, EXAMPLE_LRAT, Host, HostNames, OutputSystem, Refusal, System, run_program, say_cause};
 use lrat_check::run_check;
 use std::io;
 use std::io::Write;
