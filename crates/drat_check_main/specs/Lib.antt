@@ -1,2 +1,3 @@
 pub mod Named
 pub mod Pieces
+pub mod Shown

@@ -1,9 +1,12 @@
 //! What is said of a run that has no verdict, and what was counted.
-use command::{Call, Cost, FaultPlace, InputNames, StatsForm, System, say_fault};
+use crate::outputs::PieceTold;
+use command::{
+    Call, Cost, FaultPlace, InputNames, StatsForm, System, say_fault, say_missing, warn_of_header,
+};
 use drat_check::{PieceFault, ProofFormat, RunCounts, RunFault};
 use sat_formula::DimacsFault;
 use std::io;
-use verdicts::PieceVerdict;
+use verdicts::{PieceVerdict, Unshown};
 
 pub(crate) fn unread_formula(fault: io::Error) -> RunFault {
     RunFault::Formula(DimacsFault::of_error(fault))
@@ -19,22 +22,38 @@ pub(crate) fn say_outcome<S: System>(
     names: InputNames<'_>,
     format: ProofFormat,
     call: &Call<'_>,
-    outcome: &Result<PieceVerdict, PieceFault>,
+    outcome: &Result<PieceVerdict, Unshown<PieceFault>>,
 ) {
     if let Err(fault) = outcome {
         say_fault(system, names, fault, place_of(fault, format, call));
     }
 }
 
+/// Says which target clause is missing, and which headers do not match.
+pub(crate) fn say_told<S: System>(
+    system: &S,
+    names: InputNames<'_>,
+    holds_name: &str,
+    told: &PieceTold,
+) {
+    say_missing(system, holds_name, &told.missing);
+    warn_of_header(system, names.cnf, &told.lie);
+    warn_of_header(system, holds_name, &told.wanted_lie);
+}
+
 /// Returns the place of a run's fault. Target clauses have the name that `--holds` gives.
-fn place_of<'a>(fault: &PieceFault, format: ProofFormat, call: &'a Call<'_>) -> FaultPlace<'a> {
+fn place_of<'a>(
+    fault: &Unshown<PieceFault>,
+    format: ProofFormat,
+    call: &'a Call<'_>,
+) -> FaultPlace<'a> {
     match fault {
-        PieceFault::Run(fault) => place_in_run(fault, format, call),
-        PieceFault::Wanted(fault) => match call.value("--holds") {
+        Unshown::Fault(PieceFault::Run(fault)) => place_in_run(fault, format, call),
+        Unshown::Fault(PieceFault::Wanted(fault)) => match call.value("--holds") {
             Some(holds) => FaultPlace::in_wanted(holds, fault),
             None => FaultPlace::Elsewhere,
         },
-        PieceFault::Lost => FaultPlace::Elsewhere,
+        Unshown::Fault(PieceFault::Lost) | Unshown::Write(_) => FaultPlace::Elsewhere,
     }
 }
 
@@ -51,10 +70,10 @@ fn place_in_run<'a>(fault: &RunFault, format: ProofFormat, call: &'a Call<'_>) -
 }
 
 /// Whether a formula was not read whole.
-fn is_unread(fault: &PieceFault) -> bool {
+fn is_unread(fault: &Unshown<PieceFault>) -> bool {
     matches!(
         fault,
-        PieceFault::Wanted(_) | PieceFault::Run(RunFault::Formula(_))
+        Unshown::Fault(PieceFault::Wanted(_) | PieceFault::Run(RunFault::Formula(_)))
     )
 }
 
@@ -63,7 +82,7 @@ fn is_unread(fault: &PieceFault) -> bool {
 pub(crate) fn say_wanted_stats<S: System>(
     system: &S,
     call: &Call<'_>,
-    outcome: &Result<PieceVerdict, PieceFault>,
+    outcome: &Result<PieceVerdict, Unshown<PieceFault>>,
     counts: RunCounts,
     cost: Cost,
 ) {

@@ -13,18 +13,11 @@
 //! nothing is.
 #![tactic(auto)]
 
-ghost use Rattle.std.specs.Prelude.{◌≡◌, ◌≢◌, ℕ, List, [], ◌∷◌, None, Ok, Some, codes, false, true, IfErr, IfOk};
-ghost use Rattle.std.specs.Io.KnownBytes.{Appends};
-ghost use Rattle.command.specs.Calls.{choices_of, is_given, operands_of, value_given};
-ghost use Rattle.command.specs.Inputs.{bytes_named};
-ghost use Rattle.command.specs.Outputs.{begun};
-ghost use Rattle.drat_check_main.specs.Named.{GivesAll, LeavesPiece, LeavesProof, NamesPiece, NamesProof, NamesSome, ThenReceipt, core_name, lrat_name, trim_name};
-ghost use Rattle.drat_check_main.specs.Pieces.{KeepsPiece, ShowsLine, ShowsPiece};
-ghost use Rattle.verdicts.specs.Texts.{OfFormula};
-ghost use Rattle.receipt_files.specs.Named.{refuted_of};
-ghost use Rattle.sat_formula.specs.Refuted.{IsRefuted};
-ghost use Rattle.verdicts.specs.Verdicts.{shown_line};
-ghost use Rattle.verdicts.specs.declared.verdict.Verdict.TheVariants.{Verified};
+ghost use Rattle.std.specs.Prelude.{◌≡◌, None, codes, false, true, IfErr, IfOk};
+ghost use Rattle.command.specs.Calls.{choices_of, is_given};
+ghost use Rattle.drat_check_main.specs.Shown.{Leaves, Shows};
+ghost use Rattle.verdicts.specs.Pieces.{piece_line, shows_wanted};
+ghost use Rattle.verdicts.specs.Statuses.{Ends, status_shown};
 
 mod about;
 mod example;
@@ -57,80 +50,23 @@ fn main(rt: HostRuntime) -> ExitCode {
 }
 
 /// Runs a call in a system, with `out` as its standard output.
-#[tactic(auto, using(crate::proofs::Naming::names_none))]
+#[tactic(auto, using(crate::proofs::Showing::refused))]
 fn run<S: OutputSystem, W: Write>(
     system: &S,
     call: &Call<'_>,
     given: &mut S::Names,
     out: &mut W,
 ) -> Result<u8, Refusal>
-    ensures refutes { (cnf proof text : List ℕ)
-        → operands_of call.now ≡ cnf ∷ proof ∷ []
-        → is_given (choices_of call.now) (codes "--example") ≡ false
-        → value_given (choices_of call.now) (codes "--holds") ≡ None
-        → bytes_named (S.file_bytes system.now) (S.input_bytes system.now) cnf ≡ Some text
-        → result ≡ Ok 0 → IsRefuted text }
-    ensures line { value_given (choices_of call.now) (codes "--holds") ≡ None → result ≡ Ok 0
-        → Appends (W.contents out.old) (W.contents out.new) (shown_line Verified) }
-    ensures outputs { (cnf proof text : List ℕ)
-        → operands_of call.now ≡ cnf ∷ proof ∷ []
-        → is_given (choices_of call.now) (codes "--example") ≡ false
-        → value_given (choices_of call.now) (codes "--holds") ≡ None
-        → bytes_named (S.file_bytes system.now) (S.input_bytes system.now) cnf ≡ Some text
-        → S.unwritten system.now ≡ Some [] → result ≡ Ok 0
-        → ThenReceipt (S.place system.now) (choices_of call.now) (refuted_of text)
-        (λ named. OfFormula (Some text) (NamesProof (S.place system.now) (choices_of call.now)
-        (S.renamed given.old) named)) (S.renamed given.new) }
-    ensures empty { (cnf proof : List ℕ)
-        → operands_of call.now ≡ cnf ∷ proof ∷ []
-        → is_given (choices_of call.now) (codes "--example") ≡ false
-        → value_given (choices_of call.now) (codes "--holds") ≡ None
-        → S.unwritten system.now ≡ Some [] → result ≡ Ok 3
-        → GivesAll (S.place system.now) (choices_of call.now)
-        (begun (lrat_name (choices_of call.now))) (begun (trim_name (choices_of call.now)))
-        (begun (core_name (choices_of call.now))) (S.renamed given.old) (S.renamed given.new) }
-    ensures piece { (cnf proof holds text wanted : List ℕ)
-        → operands_of call.now ≡ cnf ∷ proof ∷ []
-        → is_given (choices_of call.now) (codes "--example") ≡ false
-        → value_given (choices_of call.now) (codes "--holds") ≡ Some holds
-        → bytes_named (S.file_bytes system.now) (S.input_bytes system.now) cnf ≡ Some text
-        → S.file_bytes system.now holds ≡ Some wanted
-        → result ≡ Ok 0 → ShowsPiece text wanted (W.contents out.old) (W.contents out.new) }
-    ensures piece_outputs { (cnf proof holds text wanted : List ℕ)
-        → operands_of call.now ≡ cnf ∷ proof ∷ []
-        → is_given (choices_of call.now) (codes "--example") ≡ false
-        → value_given (choices_of call.now) (codes "--holds") ≡ Some holds
-        → bytes_named (S.file_bytes system.now) (S.input_bytes system.now) cnf ≡ Some text
-        → S.file_bytes system.now holds ≡ Some wanted
-        → S.unwritten system.now ≡ Some [] → result ≡ Ok 0
-        → KeepsPiece (S.place system.now) (choices_of call.now) text wanted
-        (W.contents out.old) (W.contents out.new) (NamesPiece (S.place system.now) (choices_of call.now)
-        (Some text) (Some wanted) (S.renamed given.old)) (S.renamed given.new) }
-    ensures shown { result ≡ Ok 0 → ShowsLine (W.contents out.old) (W.contents out.new) }
-    ensures unnamed { IfErr result (λ status. S.renamed given.new ≡ S.renamed given.old) }
-    ensures silent { IfErr result (λ status. out.new ≡ out.old) }
-    ensures unshown { (cnf proof text : List ℕ)
-        → operands_of call.now ≡ cnf ∷ proof ∷ []
-        → is_given (choices_of call.now) (codes "--example") ≡ false
-        → value_given (choices_of call.now) (codes "--holds") ≡ None
-        → bytes_named (S.file_bytes system.now) (S.input_bytes system.now) cnf ≡ Some text
-        → S.unwritten system.now ≡ Some [] → result ≡ Ok 1
-        → LeavesProof (S.place system.now) (choices_of call.now) text
-        (W.contents out.old) (W.contents out.new) (S.renamed given.old) (S.renamed given.new) }
-    ensures piece_unshown { (cnf proof holds text wanted : List ℕ)
-        → operands_of call.now ≡ cnf ∷ proof ∷ []
-        → is_given (choices_of call.now) (codes "--example") ≡ false
-        → value_given (choices_of call.now) (codes "--holds") ≡ Some holds
-        → bytes_named (S.file_bytes system.now) (S.input_bytes system.now) cnf ≡ Some text
-        → S.file_bytes system.now holds ≡ Some wanted
-        → S.unwritten system.now ≡ Some [] → result ≡ Ok 1
-        → LeavesPiece (S.place system.now) (choices_of call.now) text wanted
-        (W.contents out.old) (W.contents out.new) (S.renamed given.old) (S.renamed given.new) }
-    ensures unkept { S.unwritten system.now ≡ Some [] → result ≢ Ok 0 → result ≢ Ok 1
-        → NamesSome (S.place system.now) (choices_of call.now) (S.renamed given.old) (S.renamed given.new) }
+    ensures ends { Ends piece_line (status_shown shows_wanted)
+        (Shows (S.unwritten system.now) (S.place system.now) call.now
+        (S.renamed given.old) (S.renamed given.new)
+        (S.file_bytes system.now) (S.input_bytes system.now))
+        (IfErr result (Leaves (S.unwritten system.now) (S.place system.now) call.now
+        (S.renamed given.old) (S.renamed given.new)))
+        (W.contents out.old) (W.contents out.new) result }
 {
     if call.has("--example") {
-        return Ok(check_example(system, out));
+        return check_example(system, out);
     }
     let format = format_of(system, call)?;
     let names = input_names(system, &ABOUT, call)?;
@@ -144,7 +80,7 @@ fn run<S: OutputSystem, W: Write>(
 ///
 /// # Errors
 ///
-/// The exit status 2 if options exclude each other.
+/// `NotRun` if options exclude each other.
 fn format_of<S: OutputSystem>(system: &S, call: &Call<'_>) -> Result<ProofFormat, Refusal>
     ensures trim { IfOk result (λ format. is_given (choices_of call.now) (codes "--holds") ≡ true
         → is_given (choices_of call.now) (codes "--trim") ≡ false) }

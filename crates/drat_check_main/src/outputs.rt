@@ -1,15 +1,11 @@
 //! The files that a run writes.
-ghost use Rattle.std.specs.Prelude.{◌≡◌, [], IfErr, IfOk, OnErr, OnOk, Some, is_some};
-ghost use Rattle.std.specs.Io.KnownBytes.{Appends};
-ghost use Rattle.std.specs.Io.Buffered.{writer_contents};
+ghost use Rattle.std.specs.Prelude.{◌≡◌, [], IfOk, None, OnErr, OnOk, Some, is_some};
 ghost use Rattle.command.specs.Calls.{choices_of};
-ghost use Rattle.command.specs.Outputs.{begun};
-ghost use Rattle.drat_check.specs.Outputs.{bytes_in};
-ghost use Rattle.drat_check_main.specs.Named.{GivesAll, GivesFirst, core_name, form_asked, lrat_name, trim_name};
-ghost use Rattle.verdicts.specs.Verdicts.{shown_line};
+ghost use Rattle.drat_check_main.specs.Named.{GivesAll, GivesFirst, bytes_of, core_name, empty_outputs, form_asked};
 
 use command::{Call, OutputSystem, ReadFile, Refusal, WrittenFiles};
-use drat_check::{LineForm, Outputs};
+use drat_check::{LineForm, MissingClause, Outputs, PieceOutputs};
+use sat_formula::LyingHeader;
 use std::cell::Cell;
 use std::io;
 use std::io::BufWriter;
@@ -21,19 +17,15 @@ pub(crate) type FileOutputs<S> = Outputs<
 >;
 
 /// Makes the optional outputs. None of them is one of the inputs, nor is one file made twice.
-#[tactic(auto, using(crate::proofs::Naming::same_bytes))]
+#[tactic(auto, using(crate::proofs::Naming::all_empty))]
 pub(crate) fn create_outputs<'a, S: OutputSystem>(
     files: &mut WrittenFiles<'a, S>,
     call: &'a Call<'_>,
     inputs: &[ReadFile<'_>],
 ) -> Result<FileOutputs<S>, Refusal>
     ensures form { IfOk result (λ outputs. outputs.form ≡ form_asked (choices_of call.now)) }
-    ensures lrat { S.unwritten files.old.system.now ≡ Some [] → IfOk result (λ outputs.
-        bytes_in (writer_contents S.Output.contents) outputs.lrat ≡ begun (lrat_name (choices_of call.now))) }
-    ensures trim { S.unwritten files.old.system.now ≡ Some [] → IfOk result (λ outputs.
-        bytes_in (writer_contents S.Output.contents) outputs.trim ≡ begun (trim_name (choices_of call.now))) }
-    ensures core { S.unwritten files.old.system.now ≡ Some [] → IfOk result (λ outputs.
-        bytes_in (writer_contents S.Output.contents) outputs.core ≡ begun (core_name (choices_of call.now))) }
+    ensures empty { S.unwritten files.old.system.now ≡ Some [] → IfOk result (λ outputs.
+        bytes_of S.Output.contents outputs ≡ empty_outputs (choices_of call.now)) }
     ensures wanted { IfOk result (λ outputs.
         is_some outputs.core ≡ is_some (core_name (choices_of call.now))) }
     ensures system { files.new.system.now ≡ files.old.system.now }
@@ -58,17 +50,53 @@ fn form_of(call: &Call<'_>) -> LineForm
     }
 }
 
-/// The files that a run with a verdict has written, which are whole.
+/// What a run over a piece has to say in addition to its verdict.
 #[derive(Drop)]
-pub(crate) struct Finished<F: io::Write + Drop> {
-    pub(crate) lrat: Option<BufWriter<F>>,
-    pub(crate) trim: Option<BufWriter<F>>,
-    pub(crate) core: Option<BufWriter<F>>,
-    pub(crate) receipt: Option<F>,
+pub(crate) struct PieceTold {
+    pub(crate) missing: Option<MissingClause>,
+    pub(crate) lie: Option<LyingHeader>,
+    pub(crate) wanted_lie: Option<LyingHeader>,
 }
 
-/// Gives the outputs of a run their names. Returns the file of the receipt, which gets its name
-/// last.
+/// Returns the outputs that were made as those of a run over a piece, which trims no steps.
+pub(crate) fn of_piece<L: Drop>(made: Outputs<L, L>) -> PieceOutputs<L, L>
+    ensures lrat { result.lrat ≡ made.lrat }
+    ensures form { result.form ≡ made.form }
+    ensures core { result.core ≡ made.core }
+{
+    PieceOutputs {
+        lrat: made.lrat,
+        form: made.form,
+        core: made.core,
+        counts: made.counts,
+        missing: None,
+        lie: None,
+        wanted_lie: None,
+    }
+}
+
+/// Returns the outputs of a run over a piece as those that get names, and what it has to say.
+pub(crate) fn of_whole<L>(outputs: PieceOutputs<L, L>) -> (Outputs<L, L>, PieceTold)
+    ensures lrat { result.0.lrat ≡ outputs.lrat }
+    ensures trim { result.0.trim ≡ None }
+    ensures core { result.0.core ≡ outputs.core }
+{
+    let told = PieceTold {
+        missing: outputs.missing,
+        lie: outputs.lie,
+        wanted_lie: outputs.wanted_lie,
+    };
+    let outputs = Outputs {
+        lrat: outputs.lrat,
+        form: outputs.form,
+        trim: None,
+        core: outputs.core,
+        counts: outputs.counts,
+    };
+    (outputs, told)
+}
+
+/// Gives the outputs of a run their names.
 ///
 /// # Errors
 ///
@@ -78,22 +106,15 @@ pub(crate) struct Finished<F: io::Write + Drop> {
 pub(crate) fn name_outputs<S: OutputSystem>(
     files: &WrittenFiles<'_, S>,
     call: &Call<'_>,
-    outputs: Finished<S::Output>,
+    outputs: FileOutputs<S>,
     given: &mut S::Names,
-) -> io::Result<Option<S::Output>>
-    ensures receipt { IfOk result (λ receipt. receipt ≡ outputs.receipt) }
-    ensures named { OnOk result (GivesAll
-        (S.place files.now.system.now) (choices_of call.now)
-        (bytes_in (writer_contents S.Output.contents) outputs.lrat)
-        (bytes_in (writer_contents S.Output.contents) outputs.trim)
-        (bytes_in (writer_contents S.Output.contents) outputs.core) (S.renamed given.old) (S.renamed given.new)) }
-    ensures first { OnErr result (GivesFirst
-        (S.place files.now.system.now) (choices_of call.now)
-        (bytes_in (writer_contents S.Output.contents) outputs.lrat)
-        (bytes_in (writer_contents S.Output.contents) outputs.trim) (S.renamed given.old) (S.renamed given.new)) }
+) -> io::Result<()>
+    ensures named { OnOk result (GivesAll (S.place files.now.system.now) (choices_of call.now)
+        (bytes_of S.Output.contents outputs) (S.renamed given.old) (S.renamed given.new)) }
+    ensures first { OnErr result (GivesFirst (S.place files.now.system.now) (choices_of call.now)
+        (bytes_of S.Output.contents outputs) (S.renamed given.old) (S.renamed given.new)) }
 {
     files.name_wanted(given, call.value("--lrat"), outputs.lrat)?;
     files.name_wanted(given, call.value("--trim"), outputs.trim)?;
-    files.name_wanted(given, call.value("--core"), outputs.core)?;
-    Ok(outputs.receipt)
+    files.name_wanted(given, call.value("--core"), outputs.core)
 }

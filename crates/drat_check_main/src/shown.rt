@@ -1,20 +1,18 @@
-//! Verdicts that are shown: the outputs get their names, and then the line is written.
-ghost use Rattle.std.specs.Prelude.{◌≡◌, Ok, IfOk, IsErr, IsOk, OnErr};
-ghost use Rattle.std.specs.Io.KnownBytes.{Appends};
-ghost use Rattle.std.specs.Io.Buffered.{writer_contents};
+//! Verdicts that are shown: the outputs get their names, the receipt gets its own, and then the
+//! line is written.
+ghost use Rattle.std.specs.Prelude.{◌≡◌, IfOk, IsErr, IsOk, Ok};
 ghost use Rattle.command.specs.Calls.{choices_of};
-ghost use Rattle.drat_check.specs.Outputs.{bytes_in};
-ghost use Rattle.drat_check_main.specs.Named.{GivesAll, LeavesUnshown, ThenNames};
+ghost use Rattle.drat_check_main.specs.Named.{GivesAll, LeavesReached, NamesReached, bytes_of};
 ghost use Rattle.drat_check_main.specs.Pieces.{piece_of};
-ghost use Rattle.receipt_files.specs.Named.{NamesReceipt};
-ghost use Rattle.verdicts.specs.Pieces.{piece_line};
+ghost use Rattle.verdicts.specs.Pieces.{piece_line, shows_wanted};
+ghost use Rattle.verdicts.specs.Statuses.{Ends, ended_of, status_shown};
 
-use crate::outputs::{Finished, name_outputs};
+use crate::outputs::{FileOutputs, name_outputs};
 use command::{Call, OutputSystem, WrittenFiles};
 use drat_check::{PieceFault, RunFault};
-use std::io;
+use receipt_files::keep_receipt;
 use std::io::Write;
-use verdicts::{PieceVerdict, Verdict};
+use verdicts::{PieceVerdict, Unshown, Verdict, show_line};
 
 /// Returns the result of a run over a whole proof as that over a piece whose only target clause is
 /// the empty one.
@@ -36,58 +34,53 @@ pub(crate) fn as_piece(checked: Result<Verdict, RunFault>) -> Result<PieceVerdic
 /// That of the run, after which nothing has its name and nothing is written; or `Write` with the
 /// rename or the write that failed. Nothing of the line is written then unless all have their
 /// names.
-#[tactic(auto, using(crate::proofs::Naming::left_some, crate::proofs::Naming::left_first))]
 pub(crate) fn show<S: OutputSystem, W: Write>(
     files: &WrittenFiles<'_, S>,
     call: &Call<'_>,
-    outputs: Finished<S::Output>,
+    outputs: FileOutputs<S>,
+    receipt: Option<S::Output>,
     checked: Result<PieceVerdict, PieceFault>,
     given: &mut S::Names,
     out: &mut W,
-) -> Result<PieceVerdict, PieceFault>
+) -> Result<PieceVerdict, Unshown<PieceFault>>
     ensures verdict { IfOk result (λ verdict. checked ≡ Ok verdict) }
-    ensures line { IfOk result (λ verdict.
-        Appends (W.contents out.old) (W.contents out.new) (piece_line verdict)) }
-    ensures named { IsOk result → ThenNames (S.place files.now.system.now) (choices_of call.now)
-        (NamesReceipt (S.place files.now.system.now) (choices_of call.now) S.Output.contents outputs.receipt)
-        (GivesAll (S.place files.now.system.now) (choices_of call.now)
-        (bytes_in (writer_contents S.Output.contents) outputs.lrat)
-        (bytes_in (writer_contents S.Output.contents) outputs.trim)
-        (bytes_in (writer_contents S.Output.contents) outputs.core) (S.renamed given.old))
-        (S.renamed given.new) }
-    ensures unnamed { IsErr checked → S.renamed given.new ≡ S.renamed given.old }
-    ensures silent { IsErr checked → out.new ≡ out.old }
-    ensures unkept { IfOk checked (λ verdict. OnErr result (LeavesUnshown
-        (S.place files.now.system.now) (choices_of call.now) (piece_line verdict)
-        (W.contents out.old) (W.contents out.new)
-        (bytes_in (writer_contents S.Output.contents) outputs.lrat)
-        (bytes_in (writer_contents S.Output.contents) outputs.trim)
-        (bytes_in (writer_contents S.Output.contents) outputs.core)
-        (NamesReceipt (S.place files.now.system.now) (choices_of call.now) S.Output.contents outputs.receipt)
-        (S.renamed given.old) (S.renamed given.new))) }
+    ensures ends { Ends piece_line (status_shown shows_wanted)
+        (NamesReached (S.place files.now.system.now) (choices_of call.now) S.Output.contents
+        (bytes_of S.Output.contents outputs) receipt checked (S.renamed given.old) (S.renamed given.new))
+        (LeavesReached (S.place files.now.system.now) (choices_of call.now)
+        (bytes_of S.Output.contents outputs) checked (S.renamed given.old) (S.renamed given.new))
+        (W.contents out.old) (W.contents out.new) (ended_of shows_wanted result) }
+{
+    let named = keep_outputs(files, call, outputs, checked, given);
+    let kept = keep_receipt(files, call, receipt, named, given);
+    show_line(kept, out)
+}
+
+/// Gives the outputs of a run their names, once a verdict was reached.
+///
+/// # Errors
+///
+/// That of the run, or `Write` with the first write or rename that failed. The outputs before it
+/// have their names then, and no other one.
+fn keep_outputs<S: OutputSystem>(
+    files: &WrittenFiles<'_, S>,
+    call: &Call<'_>,
+    outputs: FileOutputs<S>,
+    checked: Result<PieceVerdict, PieceFault>,
+    given: &mut S::Names,
+) -> Result<PieceVerdict, Unshown<PieceFault>>
+    ensures verdict { IfOk result (λ verdict. checked ≡ Ok verdict) }
+    ensures named { IsOk result → GivesAll (S.place files.now.system.now) (choices_of call.now)
+        (bytes_of S.Output.contents outputs) (S.renamed given.old) (S.renamed given.new) }
+    ensures left { IsErr result → LeavesReached (S.place files.now.system.now) (choices_of call.now)
+        (bytes_of S.Output.contents outputs) checked (S.renamed given.old) (S.renamed given.new) }
 {
     let verdict = match checked {
         Ok(verdict) => verdict,
-        Err(fault) => return Err(fault),
+        Err(fault) => return Err(Unshown::Fault(fault)),
     };
-    let receipt = match name_outputs(files, call, outputs, given) {
-        Ok(receipt) => receipt,
-        Err(fault) => return Err(unwritten(fault)),
-    };
-    let line = verdict.line();
-    receipt_files::show(
-        files,
-        call,
-        receipt,
-        Ok(verdict),
-        line,
-        unwritten,
-        given,
-        out,
-    )
-}
-
-/// Returns the fault of a verdict that was reached and not shown.
-fn unwritten(fault: io::Error) -> PieceFault {
-    PieceFault::Run(RunFault::Write(fault))
+    match name_outputs(files, call, outputs, given) {
+        Ok(()) => Ok(verdict),
+        Err(fault) => Err(Unshown::Write(fault)),
+    }
 }
