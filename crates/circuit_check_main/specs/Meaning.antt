@@ -6,7 +6,7 @@
 --     MeansNever, MeansSame, MeansSafe      of one circuit, two circuits, and a machine and an invariant, by the options of a call
 --     Means      of the operands of a call
 --     StopsSafe, Leaves      which names a call gave that is refused
-use Rattle.std.specs.Prelude.{◌≡◌, ◌⊎◌, ℕ, false, true, List, [], ◌∷◌, Option, Some, codes}
+use Rattle.std.specs.Prelude.{◌≡◌, ◌⊎◌, ℕ, false, true, List, [], ◌∷◌, Option, Some, None, codes}
 use Rattle.circuit_answers.specs.Answers.{IsDifferentJudged, IsPossibleJudged}
 use Rattle.circuit_answers.specs.Reached.{is_reached, reach_line}
 use Rattle.circuit_answers.specs.declared.reach.Reach.{Reach}
@@ -16,8 +16,9 @@ use Rattle.circuit_check.specs.Claims.{AreDifferentText, IsNeverFormula, IsNever
 use Rattle.circuit_check.specs.Verdicts.{claim_line}
 use Rattle.circuit_check.specs.declared.line.Claim.{Claim}
 use Rattle.circuit_check.specs.declared.line.Claim.TheVariants.{Never, Same, Safe}
+use Rattle.circuit_check_main.specs.Asked.{HasFiles, HasFormulas, HasProofs}
 use Rattle.circuit_check_main.specs.Shown.{NamesFormula, NamesFormulas, StopsFormulas}
-use Rattle.command.specs.Calls.{Choice, choices_of, is_given, operands_of, value_given}
+use Rattle.command.specs.Calls.{Choice, choices_of, is_given, operands_of}
 use Rattle.command.specs.declared.call.Call.{Call}
 use Rattle.verdicts.specs.Statuses.{status_shown}
 use Rattle.verdicts.specs.declared.status.Refusal.{Refusal}
@@ -94,59 +95,78 @@ Writes Names shown = (shown ≡ wrote) × Names
 
 -- ---- by the options and operands of a call
 
+-- by a proof, by an answer, or as a formula: one of the options is given
+pub data MeansNever (files : List ℕ → Option (List ℕ)) (unwritten : Option (List ℕ)) (place : List ℕ → Option (List ℕ))
+    (old new : Option (List (List ℕ × List ℕ))) (options : List Choice) (circuit : List ℕ) (shown : Shown) : Type 0 where
+  never_proof : (proof : List ℕ) → HasFiles options (Some proof) None None
+      → Proves Never (NeverMeans (files circuit)) shown
+      → MeansNever files unwritten place old new options circuit shown
+  never_answer : (answer : List ℕ) → HasFiles options None (Some answer) None
+      → Answers (PossibleMeans (files circuit) (files answer)) shown
+      → MeansNever files unwritten place old new options circuit shown
+  never_formula : (file : List ℕ) → HasFiles options None None (Some file)
+      → Writes ((text : List ℕ) → files circuit ≡ Some text → unwritten ≡ Some []
+      → NamesFormula (IsNeverFormula (Some text)) (place file) old new) shown
+      → MeansNever files unwritten place old new options circuit shown
+
+pub data MeansSame (files : List ℕ → Option (List ℕ)) (unwritten : Option (List ℕ)) (place : List ℕ → Option (List ℕ))
+    (old new : Option (List (List ℕ × List ℕ))) (options : List Choice) (circuit other : List ℕ) (shown : Shown) : Type 0 where
+  same_proof : (proof : List ℕ) → HasFiles options (Some proof) None None
+      → Proves Same (SameMeans (files circuit) (files other)) shown
+      → MeansSame files unwritten place old new options circuit other shown
+  same_answer : (answer : List ℕ) → HasFiles options None (Some answer) None
+      → Answers (DifferentMeans (files circuit) (files other) (files answer)) shown
+      → MeansSame files unwritten place old new options circuit other shown
+  same_formula : (file : List ℕ) → HasFiles options None None (Some file)
+      → Writes ((text other_text : List ℕ) → files circuit ≡ Some text → files other ≡ Some other_text → unwritten ≡ Some []
+      → NamesFormula (IsSameFormula (Some text) (Some other_text)) (place file) old new) shown
+      → MeansSame files unwritten place old new options circuit other shown
+
+-- by three proofs, or as three formulas
+pub data MeansSafe (files : List ℕ → Option (List ℕ)) (unwritten : Option (List ℕ)) (place : List ℕ → Option (List ℕ))
+    (old new : Option (List (List ℕ × List ℕ))) (options : List Choice) (machine invariant : List ℕ) (shown : Shown) : Type 0 where
+  safe_proofs : (initial step bad : List ℕ) → HasProofs options (Some initial) (Some step) (Some bad)
+      → HasFormulas options None None None
+      → Proves Safe (SafeMeans (files machine)) shown
+      → MeansSafe files unwritten place old new options machine invariant shown
+  safe_formulas : (initial step bad : List ℕ) → HasProofs options None None None
+      → HasFormulas options (Some initial) (Some step) (Some bad)
+      → Writes ((text other_text : List ℕ) → files machine ≡ Some text → files invariant ≡ Some other_text → unwritten ≡ Some []
+      → NamesFormulas (Some text) (Some other_text) (place initial) (place step) (place bad) old new) shown
+      → MeansSafe files unwritten place old new options machine invariant shown
+
+-- of the files that the operands name, or of the example
+pub data Means (files : List ℕ → Option (List ℕ)) (unwritten : Option (List ℕ)) (place : List ℕ → Option (List ℕ))
+    (old new : Option (List (List ℕ × List ℕ))) (call : Call) (shown : Shown) : Type 0 where
+  of_never : (circuit : List ℕ) → operands_of call ≡ codes "never" ∷ circuit ∷ []
+      → is_given (choices_of call) (codes "--example") ≡ false
+      → MeansNever files unwritten place old new (choices_of call) circuit shown
+      → Means files unwritten place old new call shown
+  of_same : (circuit other : List ℕ) → operands_of call ≡ codes "same" ∷ circuit ∷ other ∷ []
+      → is_given (choices_of call) (codes "--example") ≡ false
+      → MeansSame files unwritten place old new (choices_of call) circuit other shown
+      → Means files unwritten place old new call shown
+  of_safe : (machine invariant : List ℕ) → operands_of call ≡ codes "safe" ∷ machine ∷ invariant ∷ []
+      → is_given (choices_of call) (codes "--example") ≡ false
+      → MeansSafe files unwritten place old new (choices_of call) machine invariant shown
+      → Means files unwritten place old new call shown
+  of_stimulus : (machine : List ℕ) → operands_of call ≡ codes "safe" ∷ machine ∷ []
+      → is_given (choices_of call) (codes "--example") ≡ false
+      → Runs (ReachMeans (files machine)) shown
+      → Means files unwritten place old new call shown
+  of_example : is_given (choices_of call) (codes "--example") ≡ true
+      → Proves Never (λ verdict. Unit {0}) shown
+      → Means files unwritten place old new call shown
+
+-- ---- a call that is refused
+
 module _ (files : List ℕ → Option (List ℕ)) (unwritten : Option (List ℕ)) (place : List ℕ → Option (List ℕ))
     (old new : Option (List (List ℕ × List ℕ))) where
-  -- by a proof, by an answer, or as a formula
-  pub record MeansNever (options : List Choice) (circuit : List ℕ) (shown : Shown) : Type 0 where
-    pub proof : (proof : List ℕ) → value_given options (codes "--proof") ≡ Some proof
-        → Proves Never (NeverMeans (files circuit)) shown
-    pub answer : (answer : List ℕ) → value_given options (codes "--answer") ≡ Some answer
-        → Answers (PossibleMeans (files circuit) (files answer)) shown
-    pub formula : (file : List ℕ) → value_given options (codes "--formula") ≡ Some file
-        → Writes ((text : List ℕ) → files circuit ≡ Some text → unwritten ≡ Some []
-        → NamesFormula (IsNeverFormula (Some text)) (place file) old new) shown
-
-  pub record MeansSame (options : List Choice) (circuit other : List ℕ) (shown : Shown) : Type 0 where
-    pub proof : (proof : List ℕ) → value_given options (codes "--proof") ≡ Some proof
-        → Proves Same (SameMeans (files circuit) (files other)) shown
-    pub answer : (answer : List ℕ) → value_given options (codes "--answer") ≡ Some answer
-        → Answers (DifferentMeans (files circuit) (files other) (files answer)) shown
-    pub formula : (file : List ℕ) → value_given options (codes "--formula") ≡ Some file
-        → Writes ((text other_text : List ℕ) → files circuit ≡ Some text → files other ≡ Some other_text → unwritten ≡ Some []
-        → NamesFormula (IsSameFormula (Some text) (Some other_text)) (place file) old new) shown
-
-  -- by three proofs, or as three formulas
-  pub record MeansSafe (options : List Choice) (machine invariant : List ℕ) (shown : Shown) : Type 0 where
-    pub proofs : (proof : List ℕ) → value_given options (codes "--init-proof") ≡ Some proof
-        → Proves Safe (SafeMeans (files machine)) shown
-    pub formulas : (initial step bad : List ℕ)
-        → value_given options (codes "--init-formula") ≡ Some initial
-        → value_given options (codes "--step-formula") ≡ Some step
-        → value_given options (codes "--bad-formula") ≡ Some bad
-        → Writes ((text other_text : List ℕ) → files machine ≡ Some text → files invariant ≡ Some other_text → unwritten ≡ Some []
-        → NamesFormulas (Some text) (Some other_text) (place initial) (place step) (place bad) old new) shown
-
-  -- of the files that the operands name, or of the example
-  pub record Means (call : Call) (shown : Shown) : Type 0 where
-    pub never : (circuit : List ℕ) → operands_of call ≡ codes "never" ∷ circuit ∷ []
-        → is_given (choices_of call) (codes "--example") ≡ false → MeansNever (choices_of call) circuit shown
-    pub same : (circuit other : List ℕ) → operands_of call ≡ codes "same" ∷ circuit ∷ other ∷ []
-        → is_given (choices_of call) (codes "--example") ≡ false → MeansSame (choices_of call) circuit other shown
-    pub safe : (machine invariant : List ℕ) → operands_of call ≡ codes "safe" ∷ machine ∷ invariant ∷ []
-        → is_given (choices_of call) (codes "--example") ≡ false → MeansSafe (choices_of call) machine invariant shown
-    pub reached : (machine : List ℕ) → operands_of call ≡ codes "safe" ∷ machine ∷ []
-        → is_given (choices_of call) (codes "--example") ≡ false → Runs (ReachMeans (files machine)) shown
-    pub example : is_given (choices_of call) (codes "--example") ≡ true
-        → Proves Never (λ verdict. Unit {0}) shown
-
-  -- the files of some of three formulas have their names
+  -- three formulas were to be written, and some of their files have their names
   abbrev pub StopsSafe : List Choice → List ℕ → List ℕ → Type 0
-  StopsSafe options machine invariant = (initial step bad text other_text : List ℕ)
-      → value_given options (codes "--init-formula") ≡ Some initial
-      → value_given options (codes "--step-formula") ≡ Some step
-      → value_given options (codes "--bad-formula") ≡ Some bad
-      → files machine ≡ Some text → files invariant ≡ Some other_text → unwritten ≡ Some []
-      → StopsFormulas (Some text) (Some other_text) (place initial) (place step) old new
+  StopsSafe options machine invariant = (initial step bad : List ℕ) × HasFormulas options (Some initial) (Some step) (Some bad)
+      × ((text other_text : List ℕ) → files machine ≡ Some text → files invariant ≡ Some other_text → unwritten ≡ Some []
+      → StopsFormulas (Some text) (Some other_text) (place initial) (place step) old new)
 
   -- no name was given; or it was to write three formulas, and failed once some had their names
   abbrev pub Leaves : Call → Refusal → Type 0

@@ -1,35 +1,18 @@
-use Rattle.std.proofs.Common.{◌≡◌, refl}
+use Rattle.std.proofs.Common.{refl}
 use Rattle.circuit_check_main.proofs.Ending.{ends_wrote, means_more}
 use Rattle.circuit_check_main.proofs.same.run_of_same.Goals as goal
+use Rattle.circuit_check_main.specs.Meaning.{same_answer, same_formula, same_proof}
 
--- of the options one is given, and its name is that of the call
+-- one option is given, and its file is that of the call
 pub returns-in-Proof-clause-ends : goal.returns-in-Proof-clause-ends
 returns-in-Proof-clause-ends g c =
-    let files = c.in-Proof.ensures in
-    means_more _ _ _ _ (λ shown h. record {
-      proof = λ proof asked. h;
-      answer = λ answer asked. absurd (cc);
-      formula = λ file asked. absurd (cc);
-    }) c.prove_same.result c.prove_same.ensures.ends
+    means_more _ _ _ _ (λ shown h. same_proof c.in-Proof.proof.now c.in-Proof.ensures.0 h) c.prove_same.result c.prove_same.ensures.ends
 
 pub returns-in-Answer-clause-ends : goal.returns-in-Answer-clause-ends
 returns-in-Answer-clause-ends g c =
-    let files = c.in-Answer.ensures in
-    means_more _ _ _ _ (λ shown h. record {
-      proof = λ proof asked. absurd (cc);
-      answer = λ answer asked.
-          let same : answer ≡ c.in-Answer.answer.now = cc in
-          rw same h;
-      formula = λ file asked. absurd (cc);
-    }) c.answer_same.result c.answer_same.ensures.ends
+    means_more _ _ _ _ (λ shown h. same_answer c.in-Answer.answer.now c.in-Answer.ensures.0 h) c.answer_same.result c.answer_same.ensures.ends
 
 pub returns-in-Formula-clause-ends : goal.returns-in-Formula-clause-ends
 returns-in-Formula-clause-ends g c =
-    let files = c.in-Formula.ensures in
-    ends_wrote _ _ c.formula_of_same.result c.formula_of_same.ensures.zero (λ well. record {
-      proof = λ proof asked. absurd (cc);
-      answer = λ answer asked. absurd (cc);
-      formula = λ file asked.
-          let same : file ≡ c.in-Formula.formula.now = cc in
-          (refl, λ text other_text known other fresh. rw same (c.formula_of_same.ensures.named text other_text known other fresh well));
-    })
+    ends_wrote _ _ c.formula_of_same.result c.formula_of_same.ensures.zero (λ well. same_formula c.in-Formula.formula.now c.in-Formula.ensures.0
+    (refl, λ text other_text known other fresh. c.formula_of_same.ensures.named text other_text known other fresh well))
