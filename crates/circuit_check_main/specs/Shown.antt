@@ -2,7 +2,8 @@
 --     NamesFormula IsFormula place old new      the file of such a formula has its name
 --     GivesParts      three files got their names
 --     NamesFormulas      the files of the three formulas of a machine and an invariant have their names
-use Rattle.std.specs.Prelude.{ℕ, List, [], Option, Some}
+--     StopsParts, StopsFormulas      the same where one of the files got none
+use Rattle.std.specs.Prelude.{◌≡◌, ◌⊎◌, ℕ, List, [], Option, Some}
 use Rattle.command.specs.Outputs.{Gives}
 use Rattle.circuit_check.specs.Claims.{HasWritten, HaveWritten}
 
@@ -30,3 +31,19 @@ pub record NamesFormulas (known known' initial step bad : Option (List ℕ))
   pub bad_bytes : Option (List ℕ)
   pub written : HaveWritten known known' (Some []) initial_bytes (Some []) step_bytes (Some []) bad_bytes
   pub named : GivesParts initial step bad initial_bytes step_bytes bad_bytes old new
+
+-- the files before one that got no name got theirs, in this order
+abbrev pub StopsParts : (initial step initial_bytes step_bytes : Option (List ℕ))
+    (old new : Option (List (List ℕ × List ℕ))) → Type 0
+StopsParts initial step initial_bytes step_bytes old new = (new ≡ old) ⊎ (Gives old new initial initial_bytes
+    ⊎ ((with_initial : Option (List (List ℕ × List ℕ))) × Gives old with_initial initial initial_bytes
+    × Gives with_initial new step step_bytes))
+
+-- each of three files holds one of the formulas, and those before one that got no name were renamed to their places
+pub record StopsFormulas (known known' initial step : Option (List ℕ))
+    (old new : Option (List (List ℕ × List ℕ))) : Type 0 where
+  pub initial_bytes : Option (List ℕ)
+  pub step_bytes : Option (List ℕ)
+  pub bad_bytes : Option (List ℕ)
+  pub written : HaveWritten known known' (Some []) initial_bytes (Some []) step_bytes (Some []) bad_bytes
+  pub stopped : StopsParts initial step initial_bytes step_bytes old new

@@ -11,19 +11,11 @@
 //! `--version` of which version it is.
 #![tactic(auto)]
 
-ghost use Rattle.std.specs.Prelude.{◌≡◌, ℕ, List, [], ◌∷◌, Ok, Some, IfErr, codes, false, true};
-ghost use Rattle.std.specs.Io.KnownBytes.{Appends};
-ghost use Rattle.circuit_answers.specs.Lines.{open_text};
-ghost use Rattle.circuit_answers.specs.Reached.{reach_line};
-ghost use Rattle.circuit_answers.specs.declared.reach.Reach.TheVariants.{At};
-ghost use Rattle.circuit_check.specs.Answered.{OfDifferent, OfPossible, WritesDifferent, WritesPossible};
-ghost use Rattle.circuit_check.specs.Claims.{AreDifferentText, IsNeverFormula, IsNeverText, IsPossibleText, IsReachedText, IsSafeText, IsSameFormula, IsSameText};
-ghost use Rattle.circuit_check.specs.Verdicts.{claim_line};
-ghost use Rattle.circuit_check.specs.declared.line.Claim.TheVariants as claims;
+ghost use Rattle.std.specs.Prelude.{◌≡◌, IfErr, codes, false, true};
 ghost use Rattle.circuit_check_main.specs.Asked.{writes_formula};
-ghost use Rattle.circuit_check_main.specs.Shown.{NamesFormula, NamesFormulas};
-ghost use Rattle.command.specs.Calls.{choices_of, is_given, operands_of, value_given};
-ghost use Rattle.verdicts.specs.declared.verdict.Verdict.TheVariants.{Verified};
+ghost use Rattle.circuit_check_main.specs.Meaning.{Leaves, Means, shown_status, shown_text};
+ghost use Rattle.command.specs.Calls.{choices_of, is_given};
+ghost use Rattle.verdicts.specs.Statuses.{Ends};
 
 mod about;
 mod claimed;
@@ -63,124 +55,32 @@ fn main(rt: HostRuntime) -> ExitCode {
 }
 
 /// Runs a call in a system, with `out` as its standard output.
+///
+/// # Errors
+///
+/// `NotRun` if the words of the call are wrong or a file can't be opened; `Failed` if an input is
+/// malformed or can't be read, a proof is rejected, or an output can't be written. Standard error
+/// has the reason.
 fn run<S: OutputSystem, W: Write>(
     system: &S,
     call: &Call<'_>,
     given: &mut S::Names,
     out: &mut W,
 ) -> Result<u8, Refusal>
-    ensures never { (circuit proof text : List ℕ)
-        → operands_of call.now ≡ codes "never" ∷ circuit ∷ []
-        → is_given (choices_of call.now) (codes "--example") ≡ false
-        → value_given (choices_of call.now) (codes "--proof") ≡ Some proof
-        → S.file_bytes system.now circuit ≡ Some text
-        → result ≡ Ok 0 → IsNeverText text }
-    ensures never_line { (circuit proof : List ℕ)
-        → operands_of call.now ≡ codes "never" ∷ circuit ∷ []
-        → is_given (choices_of call.now) (codes "--example") ≡ false
-        → value_given (choices_of call.now) (codes "--proof") ≡ Some proof
-        → result ≡ Ok 0 → Appends (W.contents out.old) (W.contents out.new) (claim_line claims.Never Verified) }
-    ensures possible { (circuit answer text : List ℕ)
-        → operands_of call.now ≡ codes "never" ∷ circuit ∷ []
-        → is_given (choices_of call.now) (codes "--example") ≡ false
-        → value_given (choices_of call.now) (codes "--answer") ≡ Some answer
-        → S.file_bytes system.now circuit ≡ Some text
-        → result ≡ Ok 0 → IsPossibleText text }
-    ensures possible_lines { (circuit answer text said : List ℕ)
-        → operands_of call.now ≡ codes "never" ∷ circuit ∷ []
-        → is_given (choices_of call.now) (codes "--example") ≡ false
-        → value_given (choices_of call.now) (codes "--answer") ≡ Some answer
-        → S.file_bytes system.now circuit ≡ Some text
-        → S.file_bytes system.now answer ≡ Some said
-        → result ≡ Ok 0 → OfPossible (Some text) (Some said)
-        (λ c lits. WritesPossible lits c Verified (W.contents out.old) (W.contents out.new)) }
-    ensures never_formula { (circuit file text : List ℕ)
-        → operands_of call.now ≡ codes "never" ∷ circuit ∷ []
-        → is_given (choices_of call.now) (codes "--example") ≡ false
-        → value_given (choices_of call.now) (codes "--formula") ≡ Some file
-        → S.file_bytes system.now circuit ≡ Some text
-        → S.unwritten system.now ≡ Some [] → result ≡ Ok 0
-        → NamesFormula (IsNeverFormula (Some text)) (S.place system.now file)
-        (S.renamed given.old) (S.renamed given.new) }
-    ensures same { (circuit other proof text other_text : List ℕ)
-        → operands_of call.now ≡ codes "same" ∷ circuit ∷ other ∷ []
-        → is_given (choices_of call.now) (codes "--example") ≡ false
-        → value_given (choices_of call.now) (codes "--proof") ≡ Some proof
-        → S.file_bytes system.now circuit ≡ Some text
-        → S.file_bytes system.now other ≡ Some other_text
-        → result ≡ Ok 0 → IsSameText text other_text }
-    ensures same_line { (circuit other proof : List ℕ)
-        → operands_of call.now ≡ codes "same" ∷ circuit ∷ other ∷ []
-        → is_given (choices_of call.now) (codes "--example") ≡ false
-        → value_given (choices_of call.now) (codes "--proof") ≡ Some proof
-        → result ≡ Ok 0 → Appends (W.contents out.old) (W.contents out.new) (claim_line claims.Same Verified) }
-    ensures different { (circuit other answer text other_text : List ℕ)
-        → operands_of call.now ≡ codes "same" ∷ circuit ∷ other ∷ []
-        → is_given (choices_of call.now) (codes "--example") ≡ false
-        → value_given (choices_of call.now) (codes "--answer") ≡ Some answer
-        → S.file_bytes system.now circuit ≡ Some text
-        → S.file_bytes system.now other ≡ Some other_text
-        → result ≡ Ok 0 → AreDifferentText text other_text }
-    ensures different_lines { (circuit other answer text other_text said : List ℕ)
-        → operands_of call.now ≡ codes "same" ∷ circuit ∷ other ∷ []
-        → is_given (choices_of call.now) (codes "--example") ≡ false
-        → value_given (choices_of call.now) (codes "--answer") ≡ Some answer
-        → S.file_bytes system.now circuit ≡ Some text
-        → S.file_bytes system.now other ≡ Some other_text
-        → S.file_bytes system.now answer ≡ Some said
-        → result ≡ Ok 0 → OfDifferent (Some text) (Some other_text) (Some said)
-        (λ c d lits. WritesDifferent lits c d Verified (W.contents out.old) (W.contents out.new)) }
-    ensures same_formula { (circuit other file text other_text : List ℕ)
-        → operands_of call.now ≡ codes "same" ∷ circuit ∷ other ∷ []
-        → is_given (choices_of call.now) (codes "--example") ≡ false
-        → value_given (choices_of call.now) (codes "--formula") ≡ Some file
-        → S.file_bytes system.now circuit ≡ Some text
-        → S.file_bytes system.now other ≡ Some other_text
-        → S.unwritten system.now ≡ Some [] → result ≡ Ok 0
-        → NamesFormula (IsSameFormula (Some text) (Some other_text)) (S.place system.now file)
-        (S.renamed given.old) (S.renamed given.new) }
-    ensures safe { (machine invariant proof text : List ℕ)
-        → operands_of call.now ≡ codes "safe" ∷ machine ∷ invariant ∷ []
-        → is_given (choices_of call.now) (codes "--example") ≡ false
-        → value_given (choices_of call.now) (codes "--init-proof") ≡ Some proof
-        → S.file_bytes system.now machine ≡ Some text
-        → result ≡ Ok 0 → IsSafeText text }
-    ensures safe_line { (machine invariant proof : List ℕ)
-        → operands_of call.now ≡ codes "safe" ∷ machine ∷ invariant ∷ []
-        → is_given (choices_of call.now) (codes "--example") ≡ false
-        → value_given (choices_of call.now) (codes "--init-proof") ≡ Some proof
-        → result ≡ Ok 0 → Appends (W.contents out.old) (W.contents out.new) (claim_line claims.Safe Verified) }
-    ensures safe_formulas { (machine invariant initial step bad text other_text : List ℕ)
-        → operands_of call.now ≡ codes "safe" ∷ machine ∷ invariant ∷ []
-        → is_given (choices_of call.now) (codes "--example") ≡ false
-        → value_given (choices_of call.now) (codes "--init-formula") ≡ Some initial
-        → value_given (choices_of call.now) (codes "--step-formula") ≡ Some step
-        → value_given (choices_of call.now) (codes "--bad-formula") ≡ Some bad
-        → S.file_bytes system.now machine ≡ Some text
-        → S.file_bytes system.now invariant ≡ Some other_text
-        → S.unwritten system.now ≡ Some [] → result ≡ Ok 0
-        → NamesFormulas (Some text) (Some other_text) (S.place system.now initial)
-        (S.place system.now step) (S.place system.now bad) (S.renamed given.old) (S.renamed given.new) }
-    ensures reached { (machine text : List ℕ)
-        → operands_of call.now ≡ codes "safe" ∷ machine ∷ []
-        → is_given (choices_of call.now) (codes "--example") ≡ false
-        → S.file_bytes system.now machine ≡ Some text
-        → result ≡ Ok 0 → IsReachedText text }
-    ensures reached_line { (machine : List ℕ)
-        → operands_of call.now ≡ codes "safe" ∷ machine ∷ []
-        → is_given (choices_of call.now) (codes "--example") ≡ false
-        → result ≡ Ok 0 → Appends (W.contents out.old) (W.contents out.new) (reach_line (At 0)) }
-    ensures example { is_given (choices_of call.now) (codes "--example") ≡ true → result ≡ Ok 0
-        → Appends (W.contents out.old) (W.contents out.new) (claim_line claims.Never Verified) }
-    ensures open { result ≡ Ok 3 → Appends (W.contents out.old) (W.contents out.new) open_text }
+    ensures ends { Ends shown_text shown_status
+        (Means (S.file_bytes system.now) (S.unwritten system.now) (S.place system.now)
+        (S.renamed given.old) (S.renamed given.new) call.now)
+        (Unit {0}) (W.contents out.old) (W.contents out.new) result }
     ensures silent { is_given (choices_of call.now) (codes "--example") ≡ false
         → writes_formula (choices_of call.now) ≡ true → out.new ≡ out.old }
     ensures kept { writes_formula (choices_of call.now) ≡ false
         → S.renamed given.new ≡ S.renamed given.old }
-    ensures unnamed { IfErr result (λ status. S.renamed given.new ≡ S.renamed given.old) }
+    ensures unnamed { IfErr result
+        (Leaves (S.file_bytes system.now) (S.unwritten system.now) (S.place system.now)
+        (S.renamed given.old) (S.renamed given.new) call.now) }
 {
     if call.has("--example") {
-        return Ok(check_example(system, out));
+        return check_example(system, out);
     }
     let claimed = claimed_by(system, call)?;
     match claimed {

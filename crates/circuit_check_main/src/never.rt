@@ -1,24 +1,22 @@
 //! One circuit, in a file.
-ghost use Rattle.std.specs.Prelude.{◌≡◌, ℕ, List, [], Ok, Some, IfErr, IfOk, codes, false, true};
-ghost use Rattle.std.specs.Io.KnownBytes.{Appends};
-ghost use Rattle.circuit_answers.specs.Lines.{open_text};
-ghost use Rattle.circuit_check.specs.Answered.{OfPossible, WritesPossible};
-ghost use Rattle.circuit_check.specs.Claims.{IsNeverFormula, IsNeverText, IsPossibleText};
-ghost use Rattle.circuit_check.specs.Verdicts.{claim_line};
+ghost use Rattle.std.specs.Prelude.{◌≡◌, ℕ, List, [], Ok, Some, IfErr, IfOk, false, true};
+ghost use Rattle.circuit_check.specs.Claims.{IsNeverFormula};
 ghost use Rattle.circuit_check.specs.declared.line.Claim.TheVariants as claims;
 ghost use Rattle.circuit_check_main.specs.Asked.{writes_formula};
+ghost use Rattle.circuit_check_main.specs.Meaning.{Answers, MeansNever, NeverMeans, PossibleMeans, Proves, shown_status, shown_text};
 ghost use Rattle.circuit_check_main.specs.Shown.{NamesFormula};
-ghost use Rattle.command.specs.Calls.{choices_of, value_given};
-ghost use Rattle.verdicts.specs.declared.verdict.Verdict.TheVariants.{Verified};
+ghost use Rattle.command.specs.Calls.{choices_of};
+ghost use Rattle.verdicts.specs.Statuses.{Ends};
 
 use crate::about::ABOUT;
 use crate::files::open;
 use crate::formulas::{create_formula, name_formula};
 use crate::options::{Files, ONE_FILE, files_of};
-use circuit_check::{ProofFormat, exit_status, run_never, run_possible, write_never};
+use circuit_check::{ProofFormat, run_never, run_possible, write_never};
 use command::{Call, OutputSystem, ReadFile, Refusal, System, WrittenFiles, misused, say_cause};
 use log::sink::Discard;
 use std::io::Write;
+use verdicts::ended;
 
 /// Runs a call with one circuit, and returns the exit status. An Err is that of a call that is not
 /// run.
@@ -29,30 +27,10 @@ pub(crate) fn run_of_never<S: OutputSystem, W: Write>(
     given: &mut S::Names,
     out: &mut W,
 ) -> Result<u8, Refusal>
-    ensures never { (proof text : List ℕ)
-        → value_given (choices_of call.now) (codes "--proof") ≡ Some proof
-        → S.file_bytes system.now circuit.now ≡ Some text
-        → result ≡ Ok 0 → IsNeverText text }
-    ensures never_line { (proof : List ℕ)
-        → value_given (choices_of call.now) (codes "--proof") ≡ Some proof
-        → result ≡ Ok 0 → Appends (W.contents out.old) (W.contents out.new) (claim_line claims.Never Verified) }
-    ensures possible { (answer text : List ℕ)
-        → value_given (choices_of call.now) (codes "--answer") ≡ Some answer
-        → S.file_bytes system.now circuit.now ≡ Some text
-        → result ≡ Ok 0 → IsPossibleText text }
-    ensures possible_lines { (answer text said : List ℕ)
-        → value_given (choices_of call.now) (codes "--answer") ≡ Some answer
-        → S.file_bytes system.now circuit.now ≡ Some text
-        → S.file_bytes system.now answer ≡ Some said
-        → result ≡ Ok 0 → OfPossible (Some text) (Some said)
-        (λ c lits. WritesPossible lits c Verified (W.contents out.old) (W.contents out.new)) }
-    ensures formula { (file text : List ℕ)
-        → value_given (choices_of call.now) (codes "--formula") ≡ Some file
-        → S.file_bytes system.now circuit.now ≡ Some text
-        → S.unwritten system.now ≡ Some [] → result ≡ Ok 0
-        → NamesFormula (IsNeverFormula (Some text)) (S.place system.now file)
-        (S.renamed given.old) (S.renamed given.new) }
-    ensures open { result ≡ Ok 3 → Appends (W.contents out.old) (W.contents out.new) open_text }
+    ensures ends { Ends shown_text shown_status
+        (MeansNever (S.file_bytes system.now) (S.unwritten system.now) (S.place system.now)
+        (S.renamed given.old) (S.renamed given.new) (choices_of call.now) circuit.now)
+        (Unit {0}) (W.contents out.old) (W.contents out.new) result }
     ensures silent { writes_formula (choices_of call.now) ≡ true → out.new ≡ out.old }
     ensures kept { writes_formula (choices_of call.now) ≡ false
         → S.renamed given.new ≡ S.renamed given.old }
@@ -73,11 +51,9 @@ fn prove_never<S: System, W: Write>(
     proof: &str,
     out: &mut W,
 ) -> Result<u8, Refusal>
-    ensures never { (text : List ℕ) → S.file_bytes system.now circuit.now ≡ Some text
-        → result ≡ Ok 0 → IsNeverText text }
-    ensures line { result ≡ Ok 0
-        → Appends (W.contents out.old) (W.contents out.new) (claim_line claims.Never Verified) }
-    ensures open { result ≡ Ok 3 → Appends (W.contents out.old) (W.contents out.new) open_text }
+    ensures ends { Ends shown_text shown_status
+        (Proves claims.Never (NeverMeans (S.file_bytes system.now circuit.now)))
+        (Unit {0}) (W.contents out.old) (W.contents out.new) result }
 {
     let proof = open(system, proof)?;
     let circuit = open(system, circuit)?;
@@ -90,7 +66,7 @@ fn prove_never<S: System, W: Write>(
         out,
     );
     say_cause(system, &outcome);
-    Ok(exit_status(&outcome))
+    ended(&outcome)
 }
 
 /// Checks an answer, and returns the exit status. An Err is that of a file that can't be opened.
@@ -100,19 +76,15 @@ fn answer_never<S: System, W: Write>(
     answer: &str,
     out: &mut W,
 ) -> Result<u8, Refusal>
-    ensures possible { (text : List ℕ) → S.file_bytes system.now circuit.now ≡ Some text
-        → result ≡ Ok 0 → IsPossibleText text }
-    ensures lines { (text said : List ℕ) → S.file_bytes system.now circuit.now ≡ Some text
-        → S.file_bytes system.now answer.now ≡ Some said
-        → result ≡ Ok 0 → OfPossible (Some text) (Some said)
-        (λ c lits. WritesPossible lits c Verified (W.contents out.old) (W.contents out.new)) }
-    ensures open { result ≡ Ok 3 → Appends (W.contents out.old) (W.contents out.new) open_text }
+    ensures ends { Ends shown_text shown_status
+        (Answers (PossibleMeans (S.file_bytes system.now circuit.now) (S.file_bytes system.now answer.now)))
+        (Unit {0}) (W.contents out.old) (W.contents out.new) result }
 {
     let answer = open(system, answer)?;
     let circuit = open(system, circuit)?;
     let outcome = run_possible(system.alloc(), circuit.file, answer.file, out);
     say_cause(system, &outcome);
-    Ok(exit_status(&outcome))
+    ended(&outcome)
 }
 
 /// Writes the formula, and returns the exit status. The file has its name once it is whole, and is

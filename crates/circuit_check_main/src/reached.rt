@@ -1,19 +1,17 @@
 //! A machine and a stimulus, in files.
-ghost use Rattle.std.specs.Prelude.{◌≡◌, ℕ, List, Ok, Some, true};
-ghost use Rattle.std.specs.Io.KnownBytes.{Appends};
-ghost use Rattle.circuit_answers.specs.Lines.{open_text};
-ghost use Rattle.circuit_answers.specs.Reached.{reach_line};
-ghost use Rattle.circuit_answers.specs.declared.reach.Reach.TheVariants.{At};
-ghost use Rattle.circuit_check.specs.Claims.{IsReachedText};
+ghost use Rattle.std.specs.Prelude.{◌≡◌, true};
 ghost use Rattle.circuit_check_main.specs.Asked.{writes_formula};
+ghost use Rattle.circuit_check_main.specs.Meaning.{ReachMeans, Runs, shown_status, shown_text};
 ghost use Rattle.command.specs.Calls.{choices_of};
+ghost use Rattle.verdicts.specs.Statuses.{Ends};
 
 use crate::about::ABOUT;
 use crate::files::open;
 use crate::options::{Files, files_of};
-use circuit_check::{Reach, exit_status, run_reached};
+use circuit_check::{Reach, run_reached};
 use command::{Call, Refusal, System, misused, say_cause};
 use std::io::{Eprint, Write};
+use verdicts::ended;
 
 /// Runs a call with a machine alone, and returns the exit status. An Err is that of a call that
 /// can't be run.
@@ -23,11 +21,8 @@ pub(crate) fn run_of_reached<S: System, W: Write>(
     machine: &str,
     out: &mut W,
 ) -> Result<u8, Refusal>
-    ensures reached { (text : List ℕ) → S.file_bytes system.now machine.now ≡ Some text
-        → result ≡ Ok 0 → IsReachedText text }
-    ensures line { result ≡ Ok 0
-        → Appends (W.contents out.old) (W.contents out.new) (reach_line (At 0)) }
-    ensures open { result ≡ Ok 3 → Appends (W.contents out.old) (W.contents out.new) open_text }
+    ensures ends { Ends shown_text shown_status (Runs (ReachMeans (S.file_bytes system.now machine.now)))
+        (Unit {0}) (W.contents out.old) (W.contents out.new) result }
     ensures silent { writes_formula (choices_of call.now) ≡ true → out.new ≡ out.old }
 {
     match files_of(call) {
@@ -47,11 +42,8 @@ fn prove_reached<S: System, W: Write>(
     stimulus: &str,
     out: &mut W,
 ) -> Result<u8, Refusal>
-    ensures reached { (text : List ℕ) → S.file_bytes system.now machine.now ≡ Some text
-        → result ≡ Ok 0 → IsReachedText text }
-    ensures line { result ≡ Ok 0
-        → Appends (W.contents out.old) (W.contents out.new) (reach_line (At 0)) }
-    ensures open { result ≡ Ok 3 → Appends (W.contents out.old) (W.contents out.new) open_text }
+    ensures ends { Ends shown_text shown_status (Runs (ReachMeans (S.file_bytes system.now machine.now)))
+        (Unit {0}) (W.contents out.old) (W.contents out.new) result }
 {
     let machine = open(system, machine)?;
     let stimulus = open(system, stimulus)?;
@@ -60,7 +52,7 @@ fn prove_reached<S: System, W: Write>(
     if let Ok(reach) = &outcome {
         say_reach(system, *reach);
     }
-    Ok(exit_status(&outcome))
+    ended(&outcome)
 }
 
 /// Says why no bad output is reached.

@@ -1,25 +1,24 @@
 //! A machine and an invariant, in files.
-ghost use Rattle.std.specs.Prelude.{◌≡◌, ℕ, List, [], Ok, Some, IfErr, codes, false, true};
-ghost use Rattle.std.specs.Io.KnownBytes.{Appends};
-ghost use Rattle.circuit_answers.specs.Lines.{open_text};
-ghost use Rattle.circuit_check.specs.Claims.{IsSafeText};
-ghost use Rattle.circuit_check.specs.Verdicts.{claim_line};
+ghost use Rattle.std.specs.Prelude.{◌≡◌, ◌⊎◌, ℕ, List, [], Ok, Some, IfErr, IfOk, false, true};
 ghost use Rattle.circuit_check.specs.declared.line.Claim.TheVariants as claims;
 ghost use Rattle.circuit_check_main.specs.Asked.{writes_formula};
-ghost use Rattle.circuit_check_main.specs.Shown.{NamesFormulas};
-ghost use Rattle.command.specs.Calls.{choices_of, value_given};
-ghost use Rattle.verdicts.specs.declared.verdict.Verdict.TheVariants.{Verified};
+ghost use Rattle.circuit_check_main.specs.Meaning.{MeansSafe, Proves, SafeMeans, StopsSafe, shown_status, shown_text};
+ghost use Rattle.circuit_check_main.specs.Shown.{NamesFormulas, StopsFormulas};
+ghost use Rattle.command.specs.Calls.{choices_of};
+ghost use Rattle.verdicts.specs.Statuses.{Ends};
+ghost use Rattle.verdicts.specs.declared.status.Refusal.TheVariants.{Failed};
 
 use crate::about::ABOUT;
 use crate::files::open;
 use crate::options::{Files, PartNames, files_of};
 use crate::parts::{create_outputs, name_outputs, write_outputs};
-use circuit_check::{PartProofs, ProofFormat, exit_status, run_safe};
+use circuit_check::{PartProofs, ProofFormat, run_safe};
 use command::{
     Call, OutputSystem, ReadFile, Refusal, Source, System, WrittenFiles, misused, say_cause,
 };
 use log::sink::Discard;
 use std::io::Write;
+use verdicts::ended;
 
 const THREE_FILES: &str =
     "--init-proof, --step-proof and --bad-proof, or --init-formula, --step-formula and --bad-formula";
@@ -40,27 +39,18 @@ pub(crate) fn run_of_safe<S: OutputSystem, W: Write>(
     given: &mut S::Names,
     out: &mut W,
 ) -> Result<u8, Refusal>
-    ensures safe { (proof text : List ℕ)
-        → value_given (choices_of call.now) (codes "--init-proof") ≡ Some proof
-        → S.file_bytes system.now names.entry.machine.now ≡ Some text
-        → result ≡ Ok 0 → IsSafeText text }
-    ensures safe_line { (proof : List ℕ)
-        → value_given (choices_of call.now) (codes "--init-proof") ≡ Some proof
-        → result ≡ Ok 0 → Appends (W.contents out.old) (W.contents out.new) (claim_line claims.Safe Verified) }
-    ensures formulas { (initial step bad text invariant_text : List ℕ)
-        → value_given (choices_of call.now) (codes "--init-formula") ≡ Some initial
-        → value_given (choices_of call.now) (codes "--step-formula") ≡ Some step
-        → value_given (choices_of call.now) (codes "--bad-formula") ≡ Some bad
-        → S.file_bytes system.now names.entry.machine.now ≡ Some text
-        → S.file_bytes system.now names.entry.invariant.now ≡ Some invariant_text
-        → S.unwritten system.now ≡ Some [] → result ≡ Ok 0
-        → NamesFormulas (Some text) (Some invariant_text) (S.place system.now initial)
-        (S.place system.now step) (S.place system.now bad) (S.renamed given.old) (S.renamed given.new) }
-    ensures open { result ≡ Ok 3 → Appends (W.contents out.old) (W.contents out.new) open_text }
+    ensures ends { Ends shown_text shown_status
+        (MeansSafe (S.file_bytes system.now) (S.unwritten system.now) (S.place system.now)
+        (S.renamed given.old) (S.renamed given.new) (choices_of call.now)
+        names.entry.machine.now names.entry.invariant.now)
+        (Unit {0}) (W.contents out.old) (W.contents out.new) result }
     ensures silent { writes_formula (choices_of call.now) ≡ true → out.new ≡ out.old }
     ensures kept { writes_formula (choices_of call.now) ≡ false
         → S.renamed given.new ≡ S.renamed given.old }
-    ensures unnamed { IfErr result (λ status. S.renamed given.new ≡ S.renamed given.old) }
+    ensures unnamed { IfErr result (λ refusal. (S.renamed given.new ≡ S.renamed given.old)
+        ⊎ ((refusal ≡ Failed) × StopsSafe (S.file_bytes system.now) (S.unwritten system.now)
+        (S.place system.now) (S.renamed given.old) (S.renamed given.new) (choices_of call.now)
+        names.entry.machine.now names.entry.invariant.now)) }
 {
     match files_of(call) {
         Files::Proofs(proofs) => prove_safe(system, names, proofs, out),
@@ -76,11 +66,9 @@ fn prove_safe<S: System, W: Write>(
     proofs: PartNames<'_>,
     out: &mut W,
 ) -> Result<u8, Refusal>
-    ensures safe { (text : List ℕ) → S.file_bytes system.now names.entry.machine.now ≡ Some text
-        → result ≡ Ok 0 → IsSafeText text }
-    ensures line { result ≡ Ok 0
-        → Appends (W.contents out.old) (W.contents out.new) (claim_line claims.Safe Verified) }
-    ensures open { result ≡ Ok 3 → Appends (W.contents out.old) (W.contents out.new) open_text }
+    ensures ends { Ends shown_text shown_status
+        (Proves claims.Safe (SafeMeans (S.file_bytes system.now names.entry.machine.now)))
+        (Unit {0}) (W.contents out.old) (W.contents out.new) result }
 {
     let machine = open(system, names.machine)?;
     let invariant = open(system, names.invariant)?;
@@ -95,7 +83,7 @@ fn prove_safe<S: System, W: Write>(
         out,
     );
     say_cause(system, &outcome);
-    Ok(exit_status(&outcome))
+    ended(&outcome)
 }
 
 /// Opens three proofs. An Err is that of a file that can't be opened.
@@ -114,8 +102,12 @@ fn open_proofs<S: System>(
 }
 
 /// Writes the three formulas, and returns the exit status. The files have their names once all are
-/// whole, and are none of those that are read. An Err is that of a file that can't be opened or
-/// written; if one can't be renamed, it is an Ok, as the ones before it have their names.
+/// whole, and are none of those that are read.
+///
+/// # Errors
+///
+/// `NotRun` if a file can't be opened, `Failed` if one can't be written: none has its name then.
+/// `Failed` also if one can't be renamed: those before it have their names.
 fn formulas_of_safe<S: OutputSystem>(
     system: &S,
     names: Machine<'_>,
@@ -129,8 +121,14 @@ fn formulas_of_safe<S: OutputSystem>(
         → NamesFormulas (Some text) (Some invariant_text)
         (S.place system.now formulas.entry.initial.now) (S.place system.now formulas.entry.step.now)
         (S.place system.now formulas.entry.bad.now) (S.renamed given.old) (S.renamed given.new) }
-    ensures unshown { result ≡ Ok 3 → ⊥ }
-    ensures unnamed { IfErr result (λ status. S.renamed given.new ≡ S.renamed given.old) }
+    ensures zero { IfOk result (λ status. status ≡ 0) }
+    ensures unnamed { IfErr result (λ refusal. (S.renamed given.new ≡ S.renamed given.old)
+        ⊎ ((refusal ≡ Failed) × ((text invariant_text : List ℕ)
+        → S.file_bytes system.now names.entry.machine.now ≡ Some text
+        → S.file_bytes system.now names.entry.invariant.now ≡ Some invariant_text
+        → S.unwritten system.now ≡ Some [] → StopsFormulas (Some text) (Some invariant_text)
+        (S.place system.now formulas.entry.initial.now) (S.place system.now formulas.entry.step.now)
+        (S.renamed given.old) (S.renamed given.new)))) }
 {
     let machine = open(system, names.machine)?;
     let invariant = open(system, names.invariant)?;
@@ -145,6 +143,6 @@ fn formulas_of_safe<S: OutputSystem>(
     say_cause(system, &named);
     match named {
         Ok(()) => Ok(0),
-        Err(_) => Ok(1),
+        Err(_) => Err(Refusal::Failed),
     }
 }

@@ -1,25 +1,23 @@
 //! Two circuits, in files.
-ghost use Rattle.std.specs.Prelude.{◌≡◌, ℕ, List, [], Ok, Some, IfErr, IfOk, IfSome, codes, false, true};
-ghost use Rattle.std.specs.Io.KnownBytes.{Appends};
-ghost use Rattle.circuit_answers.specs.Lines.{open_text};
-ghost use Rattle.circuit_check.specs.Answered.{OfDifferent, WritesDifferent};
-ghost use Rattle.circuit_check.specs.Claims.{AreDifferentText, IsSameFormula, IsSameText};
-ghost use Rattle.circuit_check.specs.Verdicts.{claim_line};
+ghost use Rattle.std.specs.Prelude.{◌≡◌, ℕ, List, [], Ok, Some, IfErr, IfOk, IfSome, false, true};
+ghost use Rattle.circuit_check.specs.Claims.{IsSameFormula};
 ghost use Rattle.circuit_check.specs.declared.line.Claim.TheVariants as claims;
 ghost use Rattle.circuit_check_main.specs.Asked.{writes_formula};
+ghost use Rattle.circuit_check_main.specs.Meaning.{Answers, DifferentMeans, MeansSame, Proves, SameMeans, shown_status, shown_text};
 ghost use Rattle.circuit_check_main.specs.Shown.{NamesFormula};
-ghost use Rattle.command.specs.Calls.{choices_of, value_given};
-ghost use Rattle.verdicts.specs.declared.verdict.Verdict.TheVariants.{Verified};
+ghost use Rattle.command.specs.Calls.{choices_of};
+ghost use Rattle.verdicts.specs.Statuses.{Ends};
 
 use crate::about::ABOUT;
 use crate::files::open;
 use crate::formulas::{create_formula, name_formula};
 use crate::names::{NameRule, read_named};
 use crate::options::{Files, ONE_FILE, files_of};
-use circuit_check::{ProofFormat, exit_status, run_different, run_same, write_same};
+use circuit_check::{ProofFormat, run_different, run_same, write_same};
 use command::{Call, OutputSystem, ReadFile, Refusal, System, WrittenFiles, misused, say_cause};
 use log::sink::Discard;
 use std::io::Write;
+use verdicts::ended;
 
 /// The files of two circuits, and what is done if names in them differ.
 #[derive(Clone, Copy)]
@@ -38,34 +36,11 @@ pub(crate) fn run_of_same<S: OutputSystem, W: Write>(
     given: &mut S::Names,
     out: &mut W,
 ) -> Result<u8, Refusal>
-    ensures same { (proof text other_text : List ℕ)
-        → value_given (choices_of call.now) (codes "--proof") ≡ Some proof
-        → S.file_bytes system.now pair.entry.circuit.now ≡ Some text
-        → S.file_bytes system.now pair.entry.other.now ≡ Some other_text
-        → result ≡ Ok 0 → IsSameText text other_text }
-    ensures same_line { (proof : List ℕ)
-        → value_given (choices_of call.now) (codes "--proof") ≡ Some proof
-        → result ≡ Ok 0 → Appends (W.contents out.old) (W.contents out.new) (claim_line claims.Same Verified) }
-    ensures different { (answer text other_text : List ℕ)
-        → value_given (choices_of call.now) (codes "--answer") ≡ Some answer
-        → S.file_bytes system.now pair.entry.circuit.now ≡ Some text
-        → S.file_bytes system.now pair.entry.other.now ≡ Some other_text
-        → result ≡ Ok 0 → AreDifferentText text other_text }
-    ensures different_lines { (answer text other_text said : List ℕ)
-        → value_given (choices_of call.now) (codes "--answer") ≡ Some answer
-        → S.file_bytes system.now pair.entry.circuit.now ≡ Some text
-        → S.file_bytes system.now pair.entry.other.now ≡ Some other_text
-        → S.file_bytes system.now answer ≡ Some said
-        → result ≡ Ok 0 → OfDifferent (Some text) (Some other_text) (Some said)
-        (λ c d lits. WritesDifferent lits c d Verified (W.contents out.old) (W.contents out.new)) }
-    ensures formula { (file text other_text : List ℕ)
-        → value_given (choices_of call.now) (codes "--formula") ≡ Some file
-        → S.file_bytes system.now pair.entry.circuit.now ≡ Some text
-        → S.file_bytes system.now pair.entry.other.now ≡ Some other_text
-        → S.unwritten system.now ≡ Some [] → result ≡ Ok 0
-        → NamesFormula (IsSameFormula (Some text) (Some other_text)) (S.place system.now file)
-        (S.renamed given.old) (S.renamed given.new) }
-    ensures open { result ≡ Ok 3 → Appends (W.contents out.old) (W.contents out.new) open_text }
+    ensures ends { Ends shown_text shown_status
+        (MeansSame (S.file_bytes system.now) (S.unwritten system.now) (S.place system.now)
+        (S.renamed given.old) (S.renamed given.new) (choices_of call.now)
+        pair.entry.circuit.now pair.entry.other.now)
+        (Unit {0}) (W.contents out.old) (W.contents out.new) result }
     ensures silent { writes_formula (choices_of call.now) ≡ true → out.new ≡ out.old }
     ensures kept { writes_formula (choices_of call.now) ≡ false
         → S.renamed given.new ≡ S.renamed given.old }
@@ -87,13 +62,10 @@ fn prove_same<S: System, W: Write>(
     proof: &str,
     out: &mut W,
 ) -> Result<u8, Refusal>
-    ensures same { (text other_text : List ℕ)
-        → S.file_bytes system.now pair.entry.circuit.now ≡ Some text
-        → S.file_bytes system.now pair.entry.other.now ≡ Some other_text
-        → result ≡ Ok 0 → IsSameText text other_text }
-    ensures line { result ≡ Ok 0
-        → Appends (W.contents out.old) (W.contents out.new) (claim_line claims.Same Verified) }
-    ensures open { result ≡ Ok 3 → Appends (W.contents out.old) (W.contents out.new) open_text }
+    ensures ends { Ends shown_text shown_status
+        (Proves claims.Same (SameMeans (S.file_bytes system.now pair.entry.circuit.now)
+        (S.file_bytes system.now pair.entry.other.now)))
+        (Unit {0}) (W.contents out.old) (W.contents out.new) result }
 {
     let proof = open(system, proof)?;
     let (circuit, other) = read_pair(system, pair)?;
@@ -108,7 +80,7 @@ fn prove_same<S: System, W: Write>(
         out,
     );
     say_cause(system, &outcome);
-    Ok(exit_status(&outcome))
+    ended(&outcome)
 }
 
 /// Checks an answer, and returns the exit status. An Err is as of `prove_same`.
@@ -118,24 +90,17 @@ fn answer_same<S: System, W: Write>(
     answer: &str,
     out: &mut W,
 ) -> Result<u8, Refusal>
-    ensures different { (text other_text : List ℕ)
-        → S.file_bytes system.now pair.entry.circuit.now ≡ Some text
-        → S.file_bytes system.now pair.entry.other.now ≡ Some other_text
-        → result ≡ Ok 0 → AreDifferentText text other_text }
-    ensures lines { (text other_text said : List ℕ)
-        → S.file_bytes system.now pair.entry.circuit.now ≡ Some text
-        → S.file_bytes system.now pair.entry.other.now ≡ Some other_text
-        → S.file_bytes system.now answer.now ≡ Some said
-        → result ≡ Ok 0 → OfDifferent (Some text) (Some other_text) (Some said)
-        (λ c d lits. WritesDifferent lits c d Verified (W.contents out.old) (W.contents out.new)) }
-    ensures open { result ≡ Ok 3 → Appends (W.contents out.old) (W.contents out.new) open_text }
+    ensures ends { Ends shown_text shown_status
+        (Answers (DifferentMeans (S.file_bytes system.now pair.entry.circuit.now)
+        (S.file_bytes system.now pair.entry.other.now) (S.file_bytes system.now answer.now)))
+        (Unit {0}) (W.contents out.old) (W.contents out.new) result }
 {
     let answer = open(system, answer)?;
     let (circuit, other) = read_pair(system, pair)?;
     let (circuit, other) = (circuit.as_slice(), other.as_slice());
     let outcome = run_different(system.alloc(), circuit, other, answer.file, out);
     say_cause(system, &outcome);
-    Ok(exit_status(&outcome))
+    ended(&outcome)
 }
 
 /// Opens two circuits, and reads their texts as [`read_named`] does. An Err is that of a file that

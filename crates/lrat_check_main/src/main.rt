@@ -23,7 +23,10 @@ mod piece;
 use crate::about::ABOUT;
 use crate::files::{as_piece, check_files};
 use crate::piece::check_piece;
-use command::{Call, EXAMPLE_FORMULA, EXAMPLE_LRAT, Host, HostNames, OutputSystem, Refusal, System, run_program, say_cause};
+use command::{
+    Call, EXAMPLE_FORMULA, EXAMPLE_LRAT, Host, HostNames, OutputSystem, Refusal, System,
+    run_program, say_cause,
+};
 use lrat_check::run_check;
 use std::io;
 use std::io::Write;
@@ -33,7 +36,12 @@ use verdicts::{ended, show_line};
 fn main(rt: HostRuntime) -> ExitCode {
     let host = Host::new(&rt);
     run_program(&rt, &ABOUT, |call| {
-        run(&host, call, &mut HostNames::new(&host), &mut io::writer(&rt))
+        run(
+            &host,
+            call,
+            &mut HostNames::new(&host),
+            &mut io::writer(&rt),
+        )
     })
 }
 

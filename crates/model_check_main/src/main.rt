@@ -33,7 +33,12 @@ const EXAMPLE_ANSWER: &[u8] = b"s SATISFIABLE\nv 1 -2 3 0\n";
 fn main(rt: HostRuntime) -> ExitCode {
     let host = Host::new(&rt);
     run_program(&rt, &ABOUT, |call| {
-        run(&host, call, &mut HostNames::new(&host), &mut io::writer(&rt))
+        run(
+            &host,
+            call,
+            &mut HostNames::new(&host),
+            &mut io::writer(&rt),
+        )
     })
 }
 

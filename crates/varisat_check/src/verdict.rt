@@ -1,9 +1,11 @@
 //! Verdicts and their lines.
 ghost use Rattle.std.specs.Prelude.{Some};
-ghost use Rattle.varisat_check.specs.Verdicts.{line_of, shows_unsat};
+ghost use Rattle.varisat_check.specs.Verdicts.{line_of, shown_line, shows_unsat};
 
-use std::fmt;
-use verdicts::Claims;
+use crate::run::write_line;
+use std::io::Write;
+use std::{fmt, io};
+use verdicts::{Claims, Shown};
 
 /// What a proof that was accepted up to its end has shown.
 #[derive(Clone, Copy, Debug, PartialEq, Eq)]
@@ -23,6 +25,14 @@ impl Claims for Verdict {
 
     fn claims(&self) -> bool {
         matches!(self, Verdict::Unsatisfiable)
+    }
+}
+
+impl Shown for Verdict {
+    ghost line = { shown_line };
+
+    fn write_line<W: Write>(&self, out: &mut W) -> io::Result<()> {
+        write_line(out, *self)
     }
 }
 

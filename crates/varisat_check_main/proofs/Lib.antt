@@ -1,1 +1,1 @@
-pub mod StatusLemmas
+mod Meaning

@@ -1,12 +1,13 @@
 //! A proof, in a file, and the file of its lines of hints.
-ghost use Rattle.std.specs.Prelude.{◌≡◌, ℕ, List, [], ◌++◌, IfErr, IfOk, Ok, OnOk, Some};
-ghost use Rattle.std.specs.Io.KnownBytes.{Appends};
+ghost use Rattle.std.specs.Prelude.{◌≡◌, ℕ, List, [], IfOk, IsErr, IsOk, Ok, Some};
 ghost use Rattle.command.specs.Held.{held_in};
 ghost use Rattle.command.specs.Inputs.{bytes_named};
 ghost use Rattle.command.specs.Outputs.{Gives};
 ghost use Rattle.sat_formula.specs.Refuted.{IsRefuted};
-ghost use Rattle.varisat_check.specs.Verdicts.{shown_line};
+ghost use Rattle.varisat_check.specs.Verdicts.{shown_line, shows_unsat};
 ghost use Rattle.varisat_check.specs.declared.verdict.Verdict.TheVariants.{Unsatisfiable};
+ghost use Rattle.varisat_check_main.specs.Meaning.{MeansOf};
+ghost use Rattle.verdicts.specs.Statuses.{Ends, status_shown};
 
 use crate::about::ABOUT;
 use crate::files::{report, unread_formula};
@@ -18,13 +19,19 @@ use log::Log;
 use sat_formula::LyingHeader;
 use sat_hints::LratWriter;
 use std::alloc::Global;
+use std::io;
 use std::io::{Read, Write};
 use varisat_check::{RunFault, Verdict, read_formula, run_lrat};
-use whole_writes::write_whole;
+use verdicts::{Unshown, show_line};
 
 /// Checks a proof, and writes its hints. The third file is made once both others are open, and
 /// before anything is read. It is neither of them, and has its name before the verdict's line is
 /// written. Returns the exit status.
+///
+/// # Errors
+///
+/// `NotRun` if a file can't be opened; `Failed` if the formula can't be read, the proof is
+/// rejected, or the hints or the verdict's line can't be written. Standard error has the reason.
 pub(crate) fn write_hints<S: OutputSystem, W: Write>(
     system: &S,
     names: InputNames<'_>,
@@ -33,12 +40,13 @@ pub(crate) fn write_hints<S: OutputSystem, W: Write>(
     given: &mut S::Names,
     out: &mut W,
 ) -> Result<u8, Refusal>
-    ensures refutes { (text : List ℕ)
-        → bytes_named (S.file_bytes system.now) (S.input_bytes system.now) names.entry.cnf.now ≡ Some text
-        → result ≡ Ok 0 → IsRefuted text }
-    ensures line { result ≡ Ok 0
-        → Appends (W.contents out.old) (W.contents out.new) (shown_line Unsatisfiable) }
-    ensures unnamed { IfErr result (λ status. S.renamed given.new ≡ S.renamed given.old) }
+    ensures ends { Ends shown_line (status_shown shows_unsat)
+        (λ verdict. MeansOf (bytes_named (S.file_bytes system.now) (S.input_bytes system.now)
+        names.entry.cnf.now) verdict × (S.unwritten system.now ≡ Some []
+        → (bytes : List ℕ) × Gives (S.renamed given.old) (S.renamed given.new)
+        (S.place system.now lrat_name.now) (Some bytes)))
+        (S.renamed given.new ≡ S.renamed given.old)
+        (W.contents out.old) (W.contents out.new) result }
 {
     let (cnf, proof) = open_inputs(system, names.cnf, names.other).ok_or(Refusal::NotRun)?;
     let mut files = WrittenFiles::new(system);
@@ -53,72 +61,57 @@ pub(crate) fn write_hints<S: OutputSystem, W: Write>(
     )?;
     let progress = progress_of(system, &ABOUT, call);
     let proof = proof.told(system, &progress);
-    let mut lie = None;
     let log = progress.asked_log();
-    let mut line = Vec::new(system.alloc());
-    let checked = hints_of(
-        &log,
-        system.alloc(),
-        cnf,
-        proof,
-        &mut lrat,
-        &mut line,
-        &mut lie,
-    );
-    let outcome = show(&files, lrat_name, lrat, checked, &line, given, out);
-    Ok(report(system, names, &outcome, &lie))
+    let mut lie = None;
+    let checked = hints_of(&log, system.alloc(), cnf, proof, &mut lrat, &mut lie);
+    let named = name_hints(&files, lrat_name, lrat, checked, given);
+    let outcome = show_line(named, out);
+    report(system, names, &outcome, &lie)
 }
 
-/// Gives the hints of a run that has a verdict their name, and then writes the verdict's line.
+/// Gives the hints of a run that has a verdict their name.
 ///
 /// # Errors
 ///
-/// That of the run, or `Write` with the rename or the write that failed.
-fn show<S: OutputSystem, W: Write>(
+/// That of the run, or `Write` with the rename that failed. No name is given then.
+fn name_hints<S: OutputSystem>(
     files: &WrittenFiles<'_, S>,
     lrat_name: &str,
     lrat: S::Output,
     checked: Result<Verdict, RunFault>,
-    line: &[u8],
     given: &mut S::Names,
-    out: &mut W,
-) -> Result<Verdict, RunFault>
+) -> Result<Verdict, Unshown<RunFault>>
     ensures verdict { IfOk result (λ verdict. checked ≡ Ok verdict) }
-    ensures line { OnOk result (Appends (W.contents out.old) (W.contents out.new) line.now) }
-    ensures named { OnOk result (Gives (S.renamed given.old) (S.renamed given.new)
-        (S.place files.now.system.now lrat_name.now) (S.Output.contents lrat)) }
+    ensures named { IsOk result → Gives (S.renamed given.old) (S.renamed given.new)
+        (S.place files.now.system.now lrat_name.now) (S.Output.contents lrat) }
+    ensures kept { IsErr result → S.renamed given.new ≡ S.renamed given.old }
 {
     let verdict = match checked {
         Ok(verdict) => verdict,
-        Err(fault) => return Err(fault),
+        Err(fault) => return Err(Unshown::Fault(fault)),
     };
     match files.name_file(given, lrat_name, lrat) {
-        Ok(()) => {}
-        Err(fault) => return Err(RunFault::Write(fault)),
-    }
-    match write_whole(out, line) {
         Ok(()) => Ok(verdict),
-        Err(fault) => Err(RunFault::Write(fault)),
+        Err(fault) => Err(Unshown::Write(fault)),
     }
 }
 
-/// Runs the check with a writer of hints, whose output goes to `lrat`, and appends the verdict's
-/// line to `line`.
+/// Runs the check with a writer of hints, whose output goes to `lrat`.
+#[tactic(auto, using(crate::proofs::Meaning::is_known))]
 fn hints_of<L: Log, P: Read + Drop, V: Write>(
     log: &L,
     alloc: Global,
     cnf: HeldBytes,
     proof: P,
     lrat: &mut V,
-    line: &mut Vec<u8>,
     lie: &mut Option<LyingHeader>,
 ) -> Result<Verdict, RunFault>
     ensures refutes { result ≡ Ok Unsatisfiable → IsRefuted (held_in cnf) }
-    ensures line { IfOk result (λ verdict.
-        line.new.items ≡ line.old.items ++ shown_line verdict) }
+    ensures known { V.contents lrat.old ≡ Some [] → IfOk result (λ verdict.
+        (bytes : List ℕ) × (V.contents lrat.new ≡ Some bytes)) }
 {
     let formula = read_formula(alloc, cnf, lie)?;
     let writer = LratWriter::new(alloc, formula.len() as u64);
-    let (verdict, _) = run_lrat(log, alloc, &formula, writer, proof, line, lrat)?;
+    let (verdict, _) = run_lrat(log, alloc, &formula, writer, proof, &mut io::sink(), lrat)?;
     Ok(verdict)
 }

@@ -6,13 +6,11 @@
 //! What `RUST_LOG` asks for, as `RUST_LOG=info`, is logged to standard error; else nothing is.
 #![tactic(auto)]
 
-ghost use Rattle.std.specs.Prelude.{◌≡◌, ℕ, List, [], ◌∷◌, IfErr, Ok, Some, string_bytes};
-ghost use Rattle.std.specs.Io.KnownBytes.{Appends};
+ghost use Rattle.std.specs.Prelude.{◌≡◌, string_bytes};
 ghost use Rattle.command.specs.Calls.{operands_of};
-ghost use Rattle.command.specs.Inputs.{bytes_named};
-ghost use Rattle.sat_formula.specs.Refuted.{IsRefuted};
-ghost use Rattle.varisat_check.specs.Verdicts.{shown_line};
-ghost use Rattle.varisat_check.specs.declared.verdict.Verdict.TheVariants.{Unsatisfiable};
+ghost use Rattle.varisat_check.specs.Verdicts.{shown_line, shows_unsat};
+ghost use Rattle.varisat_check_main.specs.Meaning.{Means, NamesHints};
+ghost use Rattle.verdicts.specs.Statuses.{Ends, status_shown};
 
 mod about;
 mod example;
@@ -41,22 +39,26 @@ fn main(rt: HostRuntime) -> ExitCode {
 }
 
 /// Runs a call in a system, with `out` as its standard output.
+///
+/// # Errors
+///
+/// `NotRun` if an operand is missing or a file can't be opened; `Failed` if the formula can't be
+/// read, the proof is rejected, or an output can't be written. Standard error has the reason.
 fn run<S: OutputSystem, W: Write>(
     system: &S,
     call: &Call<'_>,
     given: &mut S::Names,
     out: &mut W,
 ) -> Result<u8, Refusal>
-    ensures refutes { (cnf proof text : List ℕ) (others : List (List ℕ))
-        → operands_of call.now ≡ cnf ∷ proof ∷ others
-        → bytes_named (S.file_bytes system.now) (S.input_bytes system.now) cnf ≡ Some text
-        → result ≡ Ok 0 → IsRefuted text }
-    ensures line { result ≡ Ok 0
-        → Appends (W.contents out.old) (W.contents out.new) (shown_line Unsatisfiable) }
-    ensures unnamed { IfErr result (λ status. S.renamed given.new ≡ S.renamed given.old) }
+    ensures ends { Ends shown_line (status_shown shows_unsat)
+        (λ verdict. Means (S.file_bytes system.now) (S.input_bytes system.now) call.now verdict
+        × NamesHints (S.unwritten system.now) (S.place system.now) (operands_of call.now)
+        (S.renamed given.old) (S.renamed given.new))
+        (S.renamed given.new ≡ S.renamed given.old)
+        (W.contents out.old) (W.contents out.new) result }
 {
     match call.operands.as_slice() {
-        [] => Ok(check_example(system, call, out)),
+        [] => check_example(system, call, out),
         [cnf, proof] => check_files(system, names_of(cnf, proof), call, out),
         [cnf, proof, lrat] => {
             write_hints(

@@ -1,24 +1,19 @@
-use Rattle.std.proofs.Common.{◌∙◌}
+use Rattle.std.proofs.Common.{ap}
+use Rattle.circuit_check.specs.Claims.{IsNeverFormula}
+use Rattle.circuit_check.specs.Reads.{FailsNever}
 use Rattle.circuit_check.specs.declared.line.Claim.TheVariants.{Never}
-use Rattle.circuit_check_main.proofs.StatusLemmas.{claim_open, claim_shown, three_from, zero_from}
+use Rattle.circuit_check_main.proofs.Ending.{ends_claim, never_means}
+use Rattle.circuit_check_main.specs.Meaning.{NeverMeans}
+use Rattle.command.specs.Inputs.{input_bytes_left}
 use Rattle.circuit_check_main.proofs.never.prove_never.Goals as goal
-use Rattle.verdicts.proofs.StatusLemmas.{status_zero}
-use Rattle.verdicts.specs.Statuses.{status_of}
-use Rattle.verdicts.specs.Verdicts.{shows_unsat}
 
--- only a proof that is verified has this status
-pub returns-clause-never : goal.returns-clause-never
-returns-clause-never g c text known well =
-    let zero = zero_from c.exit_status.result (status_of shows_unsat c.run_never-outcome.result) c.exit_status.ensures well in
-    c.run_never-outcome.ensures.never text (c.in_ok-circuit.ensures.bytes ∙ known) (status_zero c.run_never-outcome.result zero)
-
--- and so is the line that of the only verdict with this status
-pub returns-clause-line : goal.returns-clause-line
-returns-clause-line g c well =
-    let zero = zero_from c.exit_status.result (status_of shows_unsat c.run_never-outcome.result) c.exit_status.ensures well in
-    claim_shown (g.W.Write.contents c.args.out.now) (g.W.Write.contents c.run_never-outcome.new.out) Never c.run_never-outcome.result c.run_never-outcome.ensures.line zero
-
-pub returns-clause-open : goal.returns-clause-open
-returns-clause-open g c well =
-    let three = three_from c.exit_status.result (status_of shows_unsat c.run_never-outcome.result) c.exit_status.ensures well in
-    claim_open (g.W.Write.contents c.args.out.now) (g.W.Write.contents c.run_never-outcome.new.out) Never c.run_never-outcome.result c.run_never-outcome.ensures.line three
+-- the text is that of the circuit that was opened
+pub returns : goal.returns
+returns g c =
+    let known = input_bytes_left g.S.File.Read.remaining g.S.Input.Read.remaining c.in_ok-circuit.circuit in
+    record {
+      ends = rw c.ended.ensures (ends_claim (g.W.Write.contents c.args.out.now) (g.W.Write.contents c.run_never-outcome.new.out) Never (IsNeverFormula known)
+          (NeverMeans (g.S.System.file_bytes c.args.system.now c.args.circuit.now)) (never_means known _ c.in_ok-circuit.ensures.bytes) (FailsNever known)
+          c.run_never-outcome.result c.run_never-outcome.ensures.run c.run_never-outcome.ensures.line
+          (λ s. ap (λ w. g.W.Write.contents w) (c.run_never-outcome.ensures.silent s)) c.run_never-outcome.ensures.unwritten);
+    }

@@ -1,26 +1,32 @@
-use Rattle.std.proofs.Common.{◌≡◌, ◌∙◌, arith}
+use Rattle.std.proofs.Common.{◌≡◌, ◌∙◌, ℕ, List, [], Some, arith}
 use Rattle.std.proofs.lemmas.Grind.{common_steps}
 use Rattle.command.specs.Held.{held_in}
-use Rattle.varisat_check.specs.Verdicts.{shows_unsat}
-use Rattle.varisat_check_main.proofs.StatusLemmas.{status_zero, zero_from}
+use Rattle.command.specs.Inputs.{bytes_named}
+use Rattle.command.specs.Outputs.{Gives}
+use Rattle.varisat_check.specs.Verdicts.{shown_line, shows_unsat}
+use Rattle.varisat_check_main.proofs.Meaning.{means_held, names_hints}
 use Rattle.varisat_check_main.proofs.hints.write_hints.Goals as goal
-use Rattle.verdicts.specs.Statuses.{status_of}
+use Rattle.varisat_check_main.specs.Meaning.{MeansOf}
+use Rattle.verdicts.proofs.Ending.{ends_shown}
 
--- only the verdict that the formula is unsatisfiable has this status
-pub returns-clause-refutes : goal.returns-clause-refutes
-returns-clause-refutes g c text known well =
-    let zero = zero_from c.report.result (status_of shows_unsat c.show-outcome.result) c.report.ensures well in
-    let shown = status_zero c.show-outcome.result zero in
-    let checked = rw shown at c.show-outcome.ensures.verdict in
-    let bytes : held_in c.in_ok-cnf-2.cnf ≡ text = grind (arith, common_steps) in
-    rw (← bytes) (c.hints_of-checked.ensures.refutes checked)
-
--- and this line
-pub returns-clause-line : goal.returns-clause-line
-returns-clause-line g c well =
-    let zero = zero_from c.report.result (status_of shows_unsat c.show-outcome.result) c.report.ensures well in
-    let shown = status_zero c.show-outcome.result zero in
-    let checked = rw shown at c.show-outcome.ensures.verdict in
-    let said = rw checked at c.hints_of-checked.ensures.line in
-    let all = c.deref.ensures.value ∙ (rw c.new-line.ensures.items at said) in
-    rw all at (rw shown at c.show-outcome.ensures.line)
+-- the formula is that of the call, and the file of hints was empty
+pub returns : goal.returns
+returns g c =
+    let named = bytes_named (g.S.System.file_bytes c.args.system.now) (g.S.System.input_bytes c.args.system.now) c.args.names.cnf.now in
+    let unwritten = g.S.OutputSystem.unwritten c.args.system.now in
+    let place = g.S.OutputSystem.place c.args.system.now c.args.lrat_name.now in
+    let old = g.S.OutputSystem.renamed c.args.given.now in
+    let new = g.S.OutputSystem.renamed c.name_hints-named.new.given in
+    let empty : g.S.Output.Write.contents c.in_ok-lrat.lrat ≡ g.S.OutputSystem.unwritten c.args.system.now = grind (arith, common_steps) in
+    record {
+      ends = rw c.report.ensures
+          (ends_shown shown_line shows_unsat
+          (λ verdict. MeansOf named verdict × (unwritten ≡ Some [] → (bytes : List ℕ) × Gives old new place (Some bytes))) (new ≡ old) _ _
+          c.name_hints-named.result c.show_line-outcome.result c.show_line-outcome.ensures
+          (names_hints named unwritten place (g.S.Output.Write.contents c.hints_of-checked.new.lrat) old new c.hints_of-checked.result c.name_hints-named.result
+          c.name_hints-named.ensures.verdict
+          (means_held named (held_in c.in_ok-cnf-2.cnf) (λ text known. grind (arith, common_steps)) c.hints_of-checked.result c.hints_of-checked.ensures.refutes)
+          (λ fresh. c.hints_of-checked.ensures.known (empty ∙ fresh))
+          (rw (c.create.ensures.system ∙ c.new-files.ensures.system) at c.name_hints-named.ensures.named))
+          c.name_hints-named.ensures.kept);
+    }
