@@ -5,7 +5,7 @@ lines of claims mean, by the definitions that theirs reach beyond these.
     python3 docs/definitions_page.py --check     says whether the page is the one that would be written, and writes nothing
 
 A name is looked up as its file has it: declared there, or by its lines `use`. A constructor stands for its whole data type. Of the
-lines of claims, how a formula is read is no part again.
+lines of claims, how a formula is read does not stand there again.
 """
 
 import os

@@ -4,8 +4,9 @@ use Rattle.whole_writes.specs.Beginnings.{AppendsBeginning}
 use Rattle.circuit_text.specs.declared.circuit.Circuit as read
 use Rattle.circuit_text.specs.Circuits.{circuit_of}
 use Rattle.circuit_text.specs.Reading.{IsRead}
+use Rattle.stimulus_text.specs.Faults as stimulus_faults
+use Rattle.stimulus_text.specs.Faults.{StimulusFault}
 use Rattle.stimulus_text.specs.Reading as stimuli
-use Rattle.stimulus_text.specs.Reading.{StimulusFault}
 use Rattle.stimulus_text.specs.declared.spot.Shape.{Shape}
 use Rattle.stimulus_text.specs.declared.stimulus.Stimulus.{Stimulus}
 use Rattle.circuit_answers.specs.Reached.{IsReachJudged, reach_line}
@@ -26,8 +27,8 @@ reached_text known said c s reach step e says judged is = record {
 
 -- what was found of the machine and of the stimulus that were read
 module _ (known known' : Option (List ℕ)) (c : read.Circuit) (shape : Shape) (says : IsRead known c) (e : shape ≡ shape_of c) where
-  pub stimulus_fails : (fault : StimulusFault) → stimuli.FailsBy shape known' fault → FailsStimulus known known' fault
-  stimulus_fails fault h = record { circuit = c; says = says; fails = subst (λ (x : Shape). stimuli.FailsBy x known' fault) e h }
+  pub stimulus_fails : (fault : StimulusFault) → stimulus_faults.FailsBy shape known' fault → FailsStimulus known known' fault
+  stimulus_fails fault h = record { circuit = c; says = says; fails = subst (λ (x : Shape). stimulus_faults.FailsBy x known' fault) e h }
 
   pub reach_by : (s : Stimulus) → stimuli.IsRead shape known' s → (P : read.Circuit → Stimulus → Type 0) → P c s → OfReach known known' P
   reach_by s said P h = record {

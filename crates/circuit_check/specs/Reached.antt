@@ -7,8 +7,9 @@ use Rattle.whole_writes.specs.Beginnings.{AppendsBeginning}
 use Rattle.circuit_text.specs.declared.circuit.Circuit as read
 use Rattle.circuit_text.specs.Faults as circuit_faults
 use Rattle.circuit_text.specs.Reading as circuits
+use Rattle.stimulus_text.specs.Faults as stimulus_faults
+use Rattle.stimulus_text.specs.Faults.{StimulusFault}
 use Rattle.stimulus_text.specs.Reading as stimuli
-use Rattle.stimulus_text.specs.Reading.{StimulusFault}
 use Rattle.stimulus_text.specs.declared.spot.Shape.{Shape}
 use Rattle.stimulus_text.specs.declared.stimulus.Stimulus.{Stimulus}
 use Rattle.circuit_clauses.specs.Causes.{IsCause}
@@ -34,7 +35,7 @@ pub record OfReach (known known' : Option (List ℕ)) (P : read.Circuit → Stim
 pub record FailsStimulus (known known' : Option (List ℕ)) (fault : StimulusFault) : Type 0 where
   pub circuit : read.Circuit
   pub says : circuits.IsRead known circuit
-  pub fails : stimuli.FailsBy (shape_of circuit) known' fault
+  pub fails : stimulus_faults.FailsBy (shape_of circuit) known' fault
 
 -- the fault of the machine, then that of the stimulus, then that of the run, then that of the write
 abbrev pub FailsRun : Option (List ℕ) → Option (List ℕ) → ReachFault → Type 0

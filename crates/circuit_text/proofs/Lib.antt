@@ -1,6 +1,7 @@
 pub mod ReadingLemmas
 pub mod WrittenNumbers
 pub mod WrittenHeaders
+pub mod WrittenWordsBack
 pub mod WrittenHeadersBack
 pub mod WrittenItems
 pub mod WrittenItemsBack

@@ -5,7 +5,7 @@ use Rattle.circuit_text.specs.declared.header.Form.TheVariants as forms
 use Rattle.circuit_text.specs.automaton.Aigers.{Says, outcome_of}
 use Rattle.circuit_text.specs.Circuits.{Circuit}
 use Rattle.circuit_text.specs.Written.{BinaryForm, IsAiger, TextForm}
-use Rattle.circuit_text.proofs.WrittenHeadersBack.{WordRead, word_back}
+use Rattle.circuit_text.proofs.WrittenWordsBack.{WordRead, word_back}
 use Rattle.circuit_text.proofs.WrittenTextForm.{text_is_read}
 use Rattle.circuit_text.proofs.WrittenTextFormBack.{text_is_written}
 use Rattle.circuit_text.proofs.WrittenWhole.{binary_is_read}

@@ -29,7 +29,8 @@ use Rattle.circuit_text.specs.declared.spot.Own as own_kinds
 use Rattle.circuit_text.specs.declared.spot.Own.TheVariants as owns
 use Rattle.circuit_text.specs.automaton.Items.{no_circuit}
 use Rattle.circuit_text.specs.automaton.Headers.{all_lines, place_of}
-use Rattle.circuit_text.proofs.WrittenHeadersBack.{HeaderRead, NumbersText, WordRead, header_back}
+use Rattle.circuit_text.proofs.WrittenHeadersBack.{HeaderRead, NumbersText, header_back}
+use Rattle.circuit_text.proofs.WrittenWordsBack.{WordRead}
 use Rattle.circuit_text.proofs.WrittenItemsBack.{ItemRead, ItemsRead, latch_line_back, lit_back, section_back}
 use Rattle.circuit_text.proofs.WrittenRestsBack.{rest_back}
 use Rattle.circuit_text.proofs.WrittenTextForm.{first_place, own_place, second_place}

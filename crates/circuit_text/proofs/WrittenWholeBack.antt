@@ -12,7 +12,8 @@ use Rattle.circuit_text.specs.Circuits.{Circuit}
 use Rattle.circuit_text.specs.automaton.Headers.{all_lines, bad_lines, output_lines, place_at, place_of}
 use Rattle.circuit_text.specs.Written.{BinaryForm, Each, GateBytes, IsSized, LatchLine, LitLine, Rest, Then, maximum}
 use Rattle.circuit_text.proofs.WrittenHeaders.{header, header_of}
-use Rattle.circuit_text.proofs.WrittenHeadersBack.{HeaderRead, NumbersText, WordRead, header_back}
+use Rattle.circuit_text.proofs.WrittenHeadersBack.{HeaderRead, NumbersText, header_back}
+use Rattle.circuit_text.proofs.WrittenWordsBack.{WordRead}
 use Rattle.circuit_text.proofs.WrittenItems.{add_all, add_gate, add_latch, item_at}
 use Rattle.circuit_text.proofs.WrittenItemsBack.{ItemsRead, gate_back, latch_back, lit_item_back, section_back}
 use Rattle.circuit_text.proofs.WrittenNumbers.{at}

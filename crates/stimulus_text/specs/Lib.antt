@@ -1,5 +1,7 @@
-pub mod Places
+pub mod automaton
+pub mod Faults
+pub mod Laws
 pub mod Reading
 pub mod Rows
 pub mod Stimuli
-pub mod Texts
+pub mod Written

@@ -2,7 +2,7 @@
 use Rattle.std.specs.Prelude.{◌≡◌, true, false, [], ◌∷◌, codes}
 use Rattle.stimulus_text.specs.declared.fault.StimulusKind.TheVariants.{Malformed, Unreached, Unknown, OtherLatches, OtherInputs, Unfinished}
 use Rattle.stimulus_text.specs.declared.spot.Shape.{Shape}
-use Rattle.stimulus_text.specs.Texts.{Says, Faulty, outcome_of}
+use Rattle.stimulus_text.specs.automaton.Texts.{Says, Faulty, outcome_of}
 
 -- two latches and one input
 abbrev pub two_one : Shape

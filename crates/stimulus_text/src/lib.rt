@@ -9,7 +9,7 @@ mod spot;
 mod stimulus;
 
 pub use fault::{StimulusFault, StimulusKind};
-pub use laws::stimulus_rows;
+pub use laws::{bytes_are_lines, stimulus_rows};
 pub use reader::read_stimulus;
 pub use spot::Shape;
 pub use stimulus::{Step, Stimulus};

@@ -1,8 +1,10 @@
 //! Stimuli from a reader's bytes.
 ghost use Rattle.std.specs.Prelude.{IfErr, IfOk};
-ghost use Rattle.stimulus_text.specs.Reading.{Ends, FailsBy, IsRead, IsTaken};
-ghost use Rattle.stimulus_text.specs.Stimuli.{told_by};
-ghost use Rattle.stimulus_text.specs.Texts.{at_end, step};
+ghost use Rattle.stimulus_text.specs.automaton.Taking.{Ends, IsTaken};
+ghost use Rattle.stimulus_text.specs.Faults.{FailsBy};
+ghost use Rattle.stimulus_text.specs.Reading.{IsRead};
+ghost use Rattle.stimulus_text.specs.automaton.Items.{told_by};
+ghost use Rattle.stimulus_text.specs.automaton.Texts.{at_end, step};
 
 use crate::fault::{StimulusFault, StimulusKind};
 use crate::spot::{After, Shape, Spot};

@@ -1,6 +1,6 @@
 //! The state of the parser of stimuli, and what a byte does in it.
 ghost use Rattle.std.specs.Prelude.{◌≡◌};
-ghost use Rattle.stimulus_text.specs.Places.{after, at_status, between, in_property, in_row, in_values, is_dot, is_done, item_of, kind_of, line_start, moved, next_line, properties, row_read, start, value_of, value_read, width};
+ghost use Rattle.stimulus_text.specs.automaton.Places.{after, at_status, between, in_property, in_row, in_values, is_dot, is_done, item_of, kind_of, line_start, moved, next_line, properties, row_read, start, value_of, value_read, width};
 
 use crate::fault::StimulusKind;
 use crate::stimulus::Item;
@@ -127,7 +127,7 @@ impl Spot {
     }
 
     /// Returns what the next byte does.
-    #[tactic(auto, unfolding(crate::specs::Places::after))]
+    #[tactic(auto, unfolding(crate::specs::automaton::Places::after))]
     pub(crate) fn after(self, byte: u8) -> After
         ensures { result ≡ after self byte }
     {

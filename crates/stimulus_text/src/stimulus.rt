@@ -1,6 +1,6 @@
 //! Stimuli as they are read.
 ghost use Rattle.std.specs.Prelude.{◌≡◌, OnOk};
-ghost use Rattle.stimulus_text.specs.Stimuli.{nothing_told, told_by, with_item};
+ghost use Rattle.stimulus_text.specs.automaton.Items.{nothing_told, told_by, with_item};
 
 use std::alloc::{AllocError, Global};
 use std::mem::replace;

@@ -2,7 +2,7 @@ use Rattle.std.specs.Prelude.{IfErr}
 use Rattle.sat_formula.proofs.Exits.{exits}
 use Rattle.sat_formula.proofs.Readings.{leads_nil}
 use Rattle.sat_formula.proofs.Sources.{room_falls, room_less}
-use Rattle.stimulus_text.specs.Reading.{FailsBy}
+use Rattle.stimulus_text.specs.Faults.{FailsBy}
 use Rattle.stimulus_text.proofs.ReadingLemmas.{byte_on, ends_ill, ends_well, fails_taken}
 use Rattle.stimulus_text.proofs.reader.read_stimulus.Goals as goal
 

@@ -2,8 +2,8 @@ use Rattle.std.proofs.Common.{◌≡◌, ℕ, Some}
 use Rattle.std.specs.Prelude.{unwrap_or}
 use Rattle.sat_formula.specs.Readings.{Leads}
 use Rattle.sat_formula.specs.Source.{room_of, unread}
-use Rattle.stimulus_text.specs.Stimuli.{told_by}
-use Rattle.stimulus_text.specs.Texts.{outcome_at, outcome_of}
+use Rattle.stimulus_text.specs.automaton.Items.{told_by}
+use Rattle.stimulus_text.specs.automaton.Texts.{outcome_at, outcome_of}
 use Rattle.stimulus_text.proofs.reader.read_stimulus.Given as goal
 
 abbrev pub invariant-bytes : goal.invariant-bytes

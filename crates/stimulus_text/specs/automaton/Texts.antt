@@ -7,8 +7,8 @@ use Rattle.stimulus_text.specs.declared.spot.Shape.{Shape}
 use Rattle.stimulus_text.specs.declared.spot.Spot.{Spot}
 use Rattle.stimulus_text.specs.declared.spot.After.{After}
 use Rattle.stimulus_text.specs.declared.spot.After.TheVariants.{Next, Gives, Stops}
-use Rattle.stimulus_text.specs.Places.{after, is_done, start}
-use Rattle.stimulus_text.specs.Stimuli.{Told, nothing_told, with_item}
+use Rattle.stimulus_text.specs.automaton.Places.{after, is_done, start}
+use Rattle.stimulus_text.specs.automaton.Items.{Told, nothing_told, with_item}
 
 -- the first values of the latches and the values of the inputs at each step; or a fault, and its line
 pub data Outcome : Type 0 where
