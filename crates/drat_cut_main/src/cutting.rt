@@ -26,7 +26,7 @@ pub fn cut<F: Read + Drop, P: Read + Drop, L: Log>(
     let mut cutter = Cutter::new(alloc, additions);
     read_formula(alloc, cnf, &mut cutter)?;
     files.write_live(1, &cutter)?;
-    let mut steps = ProofSteps::new(alloc, proof);
+    let mut steps = cutter.steps(proof)?;
     let mut piece = Piece::new(limits, cutter.live_count());
     // The pieces are fewer: each has a step.
     for number in 1..u64::MAX {
