@@ -167,6 +167,23 @@ case_names() {
   says 3 'piece 1: 3 lemmas, 5 clauses live behind it' drat_cut eight.cnf <(head -n 11 eight.drat) open. --lemmas 1
 }
 
+# A formula that never ends, and in which no word does: the fault is that of the first byte that its line can't have. A comment has any bytes.
+case_endless_formula() {
+  { printf 'c \0\n'; cat eight.cnf; printf 'c'; head -c 100000 /dev/zero; } > zeros.cnf
+  says 0 $'piece 1: 3 lemmas, 5 clauses live behind it\npiece 2: 2 lemmas, 7 clauses live behind it' \
+    drat_cut zeros.cnf eight.drat zeros. --lemmas 1
+  same zeros.1.drat "$(cat cut.1.drat)"
+  says 1 $'formula: line 1: bad number\nin /dev/zero' timeout 60 drat_cut /dev/zero eight.drat endless.
+  # endless WHAT TEXT: the text, and NUL bytes without an end behind it
+  endless() {
+    fails 1 "formula: $1" timeout 60 drat_cut <(printf "$2"; exec cat /dev/zero) eight.drat endless.
+  }
+  endless 'line 3: bad number' 'c \0\n1 2 0\n'
+  endless 'line 1: bad number' '1 2 '
+  endless 'line 2: bad header' '\np cnf 3 9'
+  endless 'line 2: late header' '1 0\np'
+}
+
 # Where the first literal of a lemma comes again its witness begins, which is no part of the clause; with --drat it is.
 case_witness() {
   printf '1 2 2 1 -3 0\nd 2 1 0\n' > witness

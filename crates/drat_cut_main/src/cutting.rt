@@ -1,6 +1,7 @@
 //! Reads a proof and writes its pieces.
 use crate::fault::CutFailure;
 use crate::files::PieceFiles;
+use crate::formula::FormulaBytes;
 use crate::piece::{Limits, Piece};
 use command::WrittenFiles;
 use drat_cut::{Additions, Cutter, ProofSteps, Taken};
@@ -44,7 +45,7 @@ fn read_formula<F: Read + Drop>(
     cnf: F,
     cutter: &mut Cutter,
 ) -> Result<(), CutFailure> {
-    let mut reader = DimacsReader::new(alloc, cnf);
+    let mut reader = DimacsReader::new(alloc, FormulaBytes::new(cnf));
     let mut clause = Vec::new(alloc);
     // The clauses are fewer: the reader counts its bytes in 64 bits.
     for _ in 0..u64::MAX {
