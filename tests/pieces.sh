@@ -849,8 +849,8 @@ END
   rm -f waiting
   DRAT_CHECK=slow_check fails 0 's VERIFIED UNSAT BY ' \
     pieces run twenty.cnf twenty.drat twenty --lemmas 300 --live 100000 --jobs 1 --ahead 1
-  # (without a wait all are there; what the pipe holds, and what is handed on before a piece is told, are some blocks of 64 kB)
-  if (($(cat twenty/count) < 80 || $(sort -n waiting | tail -n 1) > 32)); then
+  # (without a wait all are there; what is handed on and no piece yet is a block of 64 kB, as much in the pipe, and half as much in the cutter)
+  if (($(cat twenty/count) < 80 || $(sort -n waiting | tail -n 1) > 16)); then
     printf '%d pieces, of which so many were there: %s\n' "$(cat twenty/count)" "$(tr '\n' ' ' < waiting)"
     wrong=1
   fi
