@@ -167,6 +167,23 @@ case_names() {
   says 3 'piece 1: 3 lemmas, 5 clauses live behind it' drat_cut eight.cnf <(head -n 11 eight.drat) open. --lemmas 1
 }
 
+# A formula that never ends, and in which no word does: the fault is that of the first byte that its line can't have. A comment has any bytes.
+case_endless_formula() {
+  { printf 'c \0\n'; cat eight.cnf; printf 'c'; head -c 100000 /dev/zero; } > zeros.cnf
+  says 0 $'piece 1: 3 lemmas, 5 clauses live behind it\npiece 2: 2 lemmas, 7 clauses live behind it' \
+    drat_cut zeros.cnf eight.drat zeros. --lemmas 1
+  same zeros.1.drat "$(cat cut.1.drat)"
+  says 1 $'formula: line 1: bad number\nin /dev/zero' timeout 60 drat_cut /dev/zero eight.drat endless.
+  # endless WHAT TEXT: the text, and NUL bytes without an end behind it
+  endless() {
+    fails 1 "formula: $1" timeout 60 drat_cut <(printf "$2"; exec cat /dev/zero) eight.drat endless.
+  }
+  endless 'line 3: bad number' 'c \0\n1 2 0\n'
+  endless 'line 1: bad number' '1 2 '
+  endless 'line 2: bad header' '\np cnf 3 9'
+  endless 'line 2: late header' '1 0\np'
+}
+
 # Where the first literal of a lemma comes again its witness begins, which is no part of the clause; with --drat it is.
 case_witness() {
   printf '1 2 2 1 -3 0\nd 2 1 0\n' > witness
@@ -837,8 +854,8 @@ END
   rm -f waiting
   DRAT_CHECK=slow_check fails 0 's VERIFIED UNSAT BY ' \
     pieces run twenty.cnf twenty.drat twenty --lemmas 300 --live 100000 --jobs 1 --ahead 1
-  # (without a wait all are there; what the pipe holds, and what is handed on before a piece is told, are some blocks of 64 kB)
-  if (($(cat twenty/count) < 80 || $(sort -n waiting | tail -n 1) > 32)); then
+  # (without a wait all are there; what is handed on and no piece yet is a block of 64 kB, as much in the pipe, and half as much in the cutter)
+  if (($(cat twenty/count) < 80 || $(sort -n waiting | tail -n 1) > 16)); then
     printf '%d pieces, of which so many were there: %s\n' "$(cat twenty/count)" "$(tr '\n' ' ' < waiting)"
     wrong=1
   fi

@@ -1,96 +1,182 @@
 //! The clause that is read: each literal once, and its hash.
-use crate::seen::SeenVars;
+use crate::seen::{SeenVars, is_new};
+use crate::words::{ClauseEnd, push_literals_at};
 use sat_formula::Lit;
 use std::alloc::{AllocError, Global};
 
-/// A clause of a step.
+/// A clause of a step, and its witness.
 #[derive(Drop)]
 pub(crate) struct ReadClause {
-    /// Each literal once, the first one of those that are written in front.
-    pub(crate) lits: Vec<Lit>,
-    /// They are the literals as they are written.
+    /// Its literals as they are written.
+    written: Vec<Lit>,
+    /// Where these are not the clause's: each literal once, the first one of those that are written
+    /// in front.
+    distinct: Vec<Lit>,
+    /// The witness behind it, where that is known not to be part of it.
+    witness: Vec<Lit>,
+    /// What is written is the clause's literals, each once, and nothing else.
     pub(crate) is_as_written: bool,
     pub(crate) is_tautology: bool,
     pub(crate) hash: ClauseHash,
     /// The highest number of a variable so far.
     pub(crate) var_count: usize,
+    /// It selects the hash.
+    seed: u64,
     seen: SeenVars,
 }
 
 /// What two clauses of the same literals share, in whatever order these are, and others hardly ever
 /// do: where that goes wrong a piece is refused.
 #[derive(Clone, Copy, PartialEq, Eq)]
-pub(crate) struct ClauseHash(pub(crate) u64);
+pub(crate) struct ClauseHash(u64);
 
 impl ClauseHash {
     pub(crate) const EMPTY: ClauseHash = ClauseHash(0);
 
     /// Returns the hash with a literal added. The seed selects the hash.
     #[inline(always)]
-    pub(crate) fn with(self, lit: Lit, seed: u64) -> ClauseHash {
-        let word = mixed((lit.code() as u64).wrapping_add(seed));
+    fn with(self, lit: Lit, seed: u64) -> ClauseHash {
+        let word = spread((lit.code() as u64).wrapping_add(seed));
         ClauseHash(self.0.wrapping_add(word))
+    }
+
+    /// Returns the place of the hash among as many as a power of two.
+    #[inline(always)]
+    pub(crate) fn place(self, count: usize) -> usize {
+        (mixed_sum(self.0) >> 32) as usize & count.wrapping_sub(1)
     }
 }
 
 impl ReadClause {
     pub(crate) fn new(alloc: Global) -> ReadClause {
         ReadClause {
-            lits: Vec::new(alloc),
+            written: Vec::new(alloc),
+            distinct: Vec::new(alloc),
+            witness: Vec::new(alloc),
             is_as_written: true,
             is_tautology: false,
             hash: ClauseHash::EMPTY,
             var_count: 0,
+            seed: 0,
             seen: SeenVars::new(alloc),
         }
     }
 
-    /// Reads a clause. The seed selects its hash.
-    pub(crate) fn read(&mut self, clause: &[Lit], seed: u64) -> Result<(), AllocError> {
-        self.seen.begin(self.var_count)?;
-        let differ = self.seen.differ(clause);
-        let (mut hash, mut count) = (ClauseHash::EMPTY, self.var_count);
-        for lit in clause {
-            hash = hash.with(*lit, seed);
-            count = count.max(lit.index().saturating_add(1));
+    /// Has the hashes of the clauses from now on selected by this seed.
+    pub(crate) fn select_hash(&mut self, seed: u64) {
+        self.seed = seed;
+    }
+
+    /// Returns the literals, each once.
+    #[inline(always)]
+    pub(crate) fn lits(&self) -> &[Lit] {
+        if self.is_as_written {
+            &self.written
+        } else {
+            &self.distinct
         }
-        self.var_count = count;
+    }
+
+    /// Returns the witness that was split off.
+    pub(crate) fn witness(&self) -> &[Lit] {
+        &self.witness
+    }
+
+    /// Reads the clause that is written from a place of a text on, up to its 0.
+    pub(crate) fn read_text(&mut self, text: &[u8], from: usize) -> Result<ClauseEnd, AllocError> {
+        self.written.clear();
+        let end = push_literals_at(&mut self.written, text, from)?;
+        if let ClauseEnd::Zero(_) = end {
+            self.read_written()?;
+        }
+        Ok(end)
+    }
+
+    /// Reads a clause.
+    pub(crate) fn read(&mut self, clause: &[Lit]) -> Result<(), AllocError> {
+        self.written.clear();
+        self.written.extend_from_slice(clause)?;
+        self.read_written()
+    }
+
+    /// Reads the clause of the literals that are written.
+    fn read_written(&mut self) -> Result<(), AllocError> {
+        let (rounds, round) = self.seen.begin()?;
+        let (mut hash, mut count, mut differ) = (ClauseHash::EMPTY, self.var_count, true);
+        for lit in &self.written {
+            let var = lit.index().saturating_add(1);
+            differ &= is_new(rounds, round, var);
+            hash = hash.with(*lit, self.seed);
+            count = count.max(var);
+        }
         self.hash = hash;
+        self.var_count = count;
         self.is_tautology = false;
         self.is_as_written = true;
-        self.lits.clear();
-        self.lits.extend_from_slice(clause)?;
-        if !differ {
-            self.read_repeated(clause, seed)?;
+        self.witness.clear();
+        if differ {
+            return Ok(());
         }
-        Ok(())
+        self.read_repeated()
     }
 
     /// Reads a clause in which a variable may be repeated.
     #[cold]
-    fn read_repeated(&mut self, clause: &[Lit], seed: u64) -> Result<(), AllocError> {
-        self.lits.sort_unstable();
-        self.lits.dedup();
-        self.is_tautology = has_opposites(&self.lits);
-        if self.lits.len() == clause.len() {
-            self.lits.clear();
-            return self.lits.extend_from_slice(clause);
+    #[inline(never)]
+    fn read_repeated(&mut self) -> Result<(), AllocError> {
+        self.distinct.clear();
+        self.distinct.extend_from_slice(&self.written)?;
+        self.distinct.sort_unstable();
+        self.distinct.dedup();
+        self.is_tautology = has_opposites(&self.distinct);
+        self.is_as_written = self.distinct.len() == self.written.len();
+        if !self.is_as_written {
+            self.hash = hash_of(&self.distinct, self.seed);
+            put_in_front(&mut self.distinct, &self.written);
         }
-        self.is_as_written = false;
-        self.hash = hash_of(&self.lits, seed);
-        self.put_in_front(clause);
         Ok(())
     }
 
-    /// Puts the first literal of these in front, which may be a pivot.
-    fn put_in_front(&mut self, clause: &[Lit]) {
-        for place in 0..self.lits.len() {
-            if clause.first() == Some(&self.lits[place]) {
-                self.lits.swap(0, place);
-                return;
-            }
+    /// Takes the witness off an addition that is written with one.
+    #[cold]
+    #[inline(never)]
+    pub(crate) fn split_witness(&mut self, alloc: Global) -> Result<(), AllocError> {
+        let (clause, witness) = parts(&self.written);
+        if witness.is_empty() {
+            return Ok(());
+        }
+        let (count, witness) = (clause.len(), Vec::from_slice(alloc, witness)?);
+        self.written.truncate(count);
+        self.read_written()?;
+        self.witness = witness;
+        if self.is_as_written {
+            self.distinct.clear();
+            self.distinct.extend_from_slice(&self.written)?;
+            self.is_as_written = false;
+        }
+        Ok(())
+    }
+}
+
+/// Puts the first one of these literals in front, which may be a pivot.
+fn put_in_front(distinct: &mut Vec<Lit>, written: &[Lit]) {
+    for place in 0..distinct.len() {
+        if written.first() == Some(&distinct[place]) {
+            distinct.swap(0, place);
+            return;
         }
     }
+}
+
+/// Returns the clause of an addition and its witness, which begins where the first literal is
+/// repeated.
+fn parts(lits: &[Lit]) -> (&[Lit], &[Lit]) {
+    for place in 1..lits.len() {
+        if lits[place] == lits[0] {
+            return lits.split_at(place);
+        }
+    }
+    lits.split_at(lits.len())
 }
 
 /// Returns the hash of literals that differ.
@@ -122,6 +208,18 @@ pub(crate) fn stirred(seed: u64, lit: Lit) -> u64 {
 /// Returns a mixed number: each bit of the argument changes many of its bits.
 #[inline(always)]
 pub(crate) fn mixed(number: u64) -> u64 {
-    let spread = number.wrapping_add(1).wrapping_mul(0x9E37_79B9_7F4A_7C15);
-    (spread ^ (spread >> 29)).wrapping_mul(0xBF58_476D_1CE4_E5B9)
+    mixed_sum(spread(number.wrapping_add(1)))
+}
+
+/// Returns a number, half mixed.
+#[inline(always)]
+fn spread(number: u64) -> u64 {
+    let word = number.wrapping_mul(0x9E37_79B9_7F4A_7C15);
+    word ^ (word >> 29)
+}
+
+/// Returns the other half of the mixing, which is the same of a sum as of its parts.
+#[inline(always)]
+fn mixed_sum(sum: u64) -> u64 {
+    sum.wrapping_mul(0xBF58_476D_1CE4_E5B9)
 }

@@ -3,13 +3,13 @@ use crate::clause::ReadClause;
 use crate::fault::CutFault;
 use crate::live::LiveClauses;
 use crate::slots::Slot;
-use crate::steps::CutStep;
+use crate::steps::{CutStep, ProofSteps};
 use crate::text::push_clause;
 use crate::units::Units;
 use sat_formula::Lit;
-use std::alloc::{AllocError, Global};
-use std::io;
-use std::io::Write;
+use std::alloc::Global;
+use std::io::{Read, Write};
+use std::{io, mem};
 use written_numbers::words::push_literals;
 
 /// How the additions of a proof are read.
@@ -44,14 +44,13 @@ pub struct Cutter {
     alloc: Global,
     live: LiveClauses,
     units: Units,
+    /// The clause of the formula that was read.
     read: ReadClause,
-    /// The witness of the lemma that was read.
-    witness: Vec<Lit>,
     additions: Additions,
+    /// The highest number of a variable in the formula and the steps that were taken.
+    var_count: usize,
     /// The clause that was read, and then its step, where their text is written anew.
     text: Vec<u8>,
-    /// The formula is complete.
-    has_begun: bool,
 }
 
 impl Cutter {
@@ -62,10 +61,9 @@ impl Cutter {
             live: LiveClauses::new(alloc),
             units: Units::new(alloc),
             read: ReadClause::new(alloc),
-            witness: Vec::new(alloc),
             additions,
+            var_count: 0,
             text: Vec::new(alloc),
-            has_begun: false,
         }
     }
 
@@ -79,13 +77,14 @@ impl Cutter {
         self.units.conflict
     }
 
-    /// Adds a clause of the formula, before the first step of the proof is taken.
+    /// Adds a clause of the formula.
     ///
     /// # Errors
     ///
     /// `OutOfMemory`, or `TooMany` if more clauses are live than 31 bits number.
     pub fn add_formula_clause(&mut self, clause: &[Lit]) -> Result<(), CutFault> {
-        self.read.read(clause, self.live.seed)?;
+        self.read.read(clause)?;
+        self.var_count = self.read.var_count;
         if self.read.is_tautology {
             return Ok(());
         }
@@ -95,19 +94,29 @@ impl Cutter {
         self.units.attach(&mut self.live.slots, slot, clause)
     }
 
+    /// Ends the formula, and returns the steps of a proof, which this cutter takes. Reads nothing
+    /// yet.
+    ///
+    /// # Errors
+    ///
+    /// `OutOfMemory`.
+    pub fn steps<R: Read + Drop>(&mut self, proof: R) -> Result<ProofSteps<R>, CutFault> {
+        let mut read = mem::replace(&mut self.read, ReadClause::new(self.alloc));
+        self.live.end_formula(&mut read)?;
+        Ok(ProofSteps::new(self.alloc, proof, self.additions, read))
+    }
+
     /// Takes a step of the proof, and returns its effect.
     ///
     /// # Errors
     ///
     /// As for `add_formula_clause`.
     pub fn take(&mut self, step: &CutStep<'_>) -> Result<Taken, CutFault> {
-        if !self.has_begun {
-            self.has_begun = true;
-            self.live.end_formula(self.alloc, &mut self.read)?;
-        }
         if self.units.conflict {
-            Ok(Taken::Nothing)
-        } else if step.deletes {
+            return Ok(Taken::Nothing);
+        }
+        self.var_count = step.clause.var_count;
+        if step.deletes {
             self.delete(step)
         } else {
             self.add(step)
@@ -116,62 +125,44 @@ impl Cutter {
 
     /// Adds a lemma.
     fn add(&mut self, step: &CutStep<'_>) -> Result<Taken, CutFault> {
-        self.read_lemma(step.lits)?;
-        if self.read.is_tautology {
+        let clause = step.clause;
+        if clause.is_tautology {
             return Ok(Taken::Nothing);
         }
-        let slot = match step.text {
-            Some(text) if self.read.is_as_written => self.live.put(text, &self.read)?,
-            _ => self.put_written()?,
+        let slot = match step.written() {
+            Some(text) => self.live.put(text, clause.hash)?,
+            None => self.put_written(clause)?,
         };
-        let lits = &self.read.lits;
-        self.units.attach(&mut self.live.slots, slot, lits)?;
+        self.units
+            .attach(&mut self.live.slots, slot, clause.lits())?;
         Ok(Taken::Lemma)
     }
 
-    /// Adds the lemma that was read by a text that is written for it, and then writes that of its
-    /// step. Returns its slot.
-    fn put_written(&mut self) -> Result<Slot, CutFault> {
+    /// Adds a lemma by a text that is written for it, and then writes that of its step. Returns its
+    /// slot.
+    fn put_written(&mut self, clause: &ReadClause) -> Result<Slot, CutFault> {
         self.text.clear();
-        push_clause(&mut self.text, &self.read.lits)?;
-        let slot = self.live.put(&self.text, &self.read)?;
+        push_clause(&mut self.text, clause.lits())?;
+        let slot = self.live.put(&self.text, clause.hash)?;
         self.text.clear();
-        push_literals(&mut self.text, &self.read.lits)?;
-        push_clause(&mut self.text, &self.witness)?;
+        push_literals(&mut self.text, clause.lits())?;
+        push_clause(&mut self.text, clause.witness())?;
         Ok(slot)
     }
 
     /// Deletes a clause, if there is one with the literals of the step.
     fn delete(&mut self, step: &CutStep<'_>) -> Result<Taken, CutFault> {
-        self.read.read(step.lits, self.live.seed)?;
-        let Some(slot) = self.live.take(&self.read) else {
+        let Some(slot) = self.live.take(step.clause.hash) else {
             return Ok(Taken::Nothing);
         };
         self.units.detach(&self.live.slots, slot);
         self.live.slots.release(slot)?;
-        if step.text.is_none() || !self.read.is_as_written {
+        if step.written().is_none() {
             self.text.clear();
             self.text.extend_from_slice(b"d ")?;
-            push_clause(&mut self.text, &self.read.lits)?;
+            push_clause(&mut self.text, step.clause.lits())?;
         }
         Ok(Taken::Deletion)
-    }
-
-    /// Reads the clause of an addition and its witness.
-    fn read_lemma(&mut self, lits: &[Lit]) -> Result<(), AllocError> {
-        self.witness.clear();
-        self.read.read(lits, self.live.seed)?;
-        if self.read.is_as_written || self.additions == Additions::Drat {
-            return Ok(());
-        }
-        let (clause, witness) = parts(lits);
-        if witness.is_empty() {
-            return Ok(());
-        }
-        self.witness.extend_from_slice(witness)?;
-        self.read.read(clause, self.live.seed)?;
-        self.read.is_as_written = false;
-        Ok(())
     }
 
     /// Writes a step that was taken last and had an effect.
@@ -180,10 +171,7 @@ impl Cutter {
     ///
     /// The fault of the first write that failed.
     pub fn write_step<W: Write>(&self, step: &CutStep<'_>, out: &mut W) -> io::Result<()> {
-        match step.text {
-            Some(text) if self.read.is_as_written => out.write_all(text),
-            _ => out.write_all(&self.text),
-        }
+        out.write_all(step.written().unwrap_or(&self.text))
     }
 
     /// Writes the live clauses as a formula.
@@ -192,7 +180,7 @@ impl Cutter {
     ///
     /// The fault of the first write that failed; a beginning of the formula is written then.
     pub fn write_live<W: Write>(&self, out: &mut W) -> io::Result<()> {
-        let (vars, count) = (self.read.var_count, self.live.slots.count());
+        let (vars, count) = (self.var_count, self.live.slots.count());
         writeln!(out, "p cnf {vars} {count}")?;
         for number in 0..self.live.slots.len() {
             if let Some(slot) = self.live.slots.living(number) {
@@ -201,15 +189,4 @@ impl Cutter {
         }
         Ok(())
     }
-}
-
-/// Returns the clause of an addition and its witness, which begins where the first literal is
-/// repeated.
-fn parts(lits: &[Lit]) -> (&[Lit], &[Lit]) {
-    for place in 1..lits.len() {
-        if lits[place] == lits[0] {
-            return lits.split_at(place);
-        }
-    }
-    lits.split_at(lits.len())
 }

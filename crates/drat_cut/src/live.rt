@@ -2,7 +2,6 @@
 use crate::clause::{ClauseHash, ReadClause, stirred};
 use crate::fault::CutFault;
 use crate::slots::{Slot, SlotLink, Slots};
-use crate::words::push_literals_at;
 use sat_formula::Lit;
 use std::alloc::{AllocError, Global};
 
@@ -13,17 +12,19 @@ use std::alloc::{AllocError, Global};
 pub(crate) struct LiveClauses {
     pub(crate) slots: Slots,
     buckets: Vec<SlotLink>,
-    pub(crate) seed: u64,
+    seed: u64,
 }
 
 impl LiveClauses {
     const FIRST_SIZE: usize = 1024;
+    /// That of an empty formula.
+    const FIRST_SEED: u64 = 0x9E37_79B9_7F4A_7C15;
 
     pub(crate) fn new(alloc: Global) -> LiveClauses {
         LiveClauses {
             slots: Slots::new(alloc),
             buckets: Vec::new(alloc),
-            seed: 0,
+            seed: LiveClauses::FIRST_SEED,
         }
     }
 
@@ -39,18 +40,13 @@ impl LiveClauses {
         self.slots.put(text, ClauseHash::EMPTY)
     }
 
-    /// Ends the formula, and enters its clauses. `read` is overwritten.
-    pub(crate) fn end_formula(
-        &mut self,
-        alloc: Global,
-        read: &mut ReadClause,
-    ) -> Result<(), AllocError> {
-        let mut lits = Vec::new(alloc);
+    /// Ends the formula, and enters its clauses. `read` is overwritten, and has the hash from now
+    /// on that they select.
+    pub(crate) fn end_formula(&mut self, read: &mut ReadClause) -> Result<(), AllocError> {
+        read.select_hash(self.seed);
         for number in 0..self.slots.len() {
             if let Some(slot) = self.slots.living(number) {
-                lits.clear();
-                push_literals_at(&mut lits, self.slots.text(slot), 0)?;
-                read.read(&lits, self.seed)?;
+                let _end = read.read_text(self.slots.text(slot), 0)?;
                 if let Some(entry) = self.slots.get_mut(slot) {
                     entry.hash = read.hash;
                 }
@@ -59,9 +55,9 @@ impl LiveClauses {
         self.grow()
     }
 
-    /// Adds the clause that was read, by its text. Returns its slot.
-    pub(crate) fn put(&mut self, text: &[u8], read: &ReadClause) -> Result<Slot, CutFault> {
-        let slot = self.slots.put(text, read.hash)?;
+    /// Adds a clause by its text and the hash of its literals. Returns its slot.
+    pub(crate) fn put(&mut self, text: &[u8], hash: ClauseHash) -> Result<Slot, CutFault> {
+        let slot = self.slots.put(text, hash)?;
         if self.slots.count() > self.buckets.len() {
             self.grow()?;
         } else {
@@ -97,17 +93,17 @@ impl LiveClauses {
         }
     }
 
-    /// Takes out and returns a clause with the literals that were read that is no reason, if there
-    /// is one.
-    pub(crate) fn take(&mut self, read: &ReadClause) -> Option<Slot> {
+    /// Takes out and returns a clause with the literals of this hash that is no reason, if there is
+    /// one.
+    pub(crate) fn take(&mut self, hash: ClauseHash) -> Option<Slot> {
         let mut before: Option<Slot> = None;
-        let mut at = *bucket_of(&mut self.buckets, read.hash)?;
+        let mut at = *bucket_of(&mut self.buckets, hash)?;
         for _ in 0..self.slots.len() {
             let slot = at.get()?;
             let entry = self.slots.get(slot)?;
             let next = entry.next;
-            if entry.hash == read.hash && !entry.is_reason {
-                self.leave(before, next, read.hash);
+            if entry.hash == hash && !entry.is_reason {
+                self.leave(before, next, hash);
                 return Some(slot);
             }
             before = Some(slot);
@@ -136,6 +132,6 @@ impl LiveClauses {
 /// Returns the bucket of a hash, if there is one.
 #[inline(always)]
 fn bucket_of(buckets: &mut Vec<SlotLink>, hash: ClauseHash) -> Option<&mut SlotLink> {
-    let mask = buckets.len().wrapping_sub(1);
-    buckets.get_mut((hash.0 >> 32) as usize & mask)
+    let place = hash.place(buckets.len());
+    buckets.get_mut(place)
 }

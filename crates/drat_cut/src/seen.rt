@@ -1,6 +1,6 @@
 //! Which variables a clause has.
-use sat_formula::Lit;
 use std::alloc::{AllocError, Global};
+use std::mem;
 
 /// The variables of the clause that is read. Each has a place, which several can share: so a new
 /// variable can count as one that was seen, and never the other way round.
@@ -12,46 +12,35 @@ pub(crate) struct SeenVars {
 }
 
 impl SeenVars {
-    const FIRST_SIZE: usize = 1 << 12;
-    /// More places are not made: they are to stay in a cache.
-    const LAST_SIZE: usize = 1 << 18;
+    /// How many places there are: few, so that they stay in a cache.
+    const PLACES: usize = 1 << 16;
 
     pub(crate) fn new(alloc: Global) -> SeenVars {
         SeenVars {
             rounds: Vec::new(alloc),
-            round: 0,
+            round: u32::MAX,
         }
     }
 
-    /// Begins a clause, and makes a place for each of these variables, up to the last size.
-    pub(crate) fn begin(&mut self, vars: usize) -> Result<(), AllocError> {
-        let wanted = vars.clamp(SeenVars::FIRST_SIZE, SeenVars::LAST_SIZE);
-        if wanted > self.rounds.len() || self.round == u32::MAX {
-            let size = wanted.checked_next_power_of_two().unwrap_or(wanted);
+    /// Begins a clause. Returns the places, and its number.
+    #[inline(always)]
+    pub(crate) fn begin(&mut self) -> Result<(&mut [u32], u32), AllocError> {
+        if self.round == u32::MAX {
             self.rounds.clear();
-            self.rounds.resize(size, 0)?;
+            self.rounds.resize(SeenVars::PLACES, 0)?;
             self.round = 0;
         }
         self.round = self.round.wrapping_add(1);
-        Ok(())
+        Ok((self.rounds.as_mut_slice(), self.round))
     }
+}
 
-    /// Notes the variables of these literals. Returns whether each has a place in which none was
-    /// seen in the clause.
-    pub(crate) fn differ(&mut self, lits: &[Lit]) -> bool {
-        let round = self.round;
-        let mask = self.rounds.len().wrapping_sub(1);
-        let rounds = self.rounds.as_mut_slice();
-        let mut differ = true;
-        for lit in lits {
-            match rounds.get_mut(lit.index() & mask) {
-                Some(last) => {
-                    differ &= *last != round;
-                    *last = round;
-                }
-                None => differ = false,
-            }
-        }
-        differ
+/// Notes a variable by its number. Returns whether it has a place in which none was seen in this
+/// clause.
+#[inline(always)]
+pub(crate) fn is_new(rounds: &mut [u32], round: u32, number: usize) -> bool {
+    match rounds.get_mut(number % SeenVars::PLACES) {
+        Some(last) => mem::replace(last, round) != round,
+        None => false,
     }
 }

@@ -2,11 +2,12 @@
 //! found too. At the first byte that is no part of a plain step, and in a proof that is not plainly
 //! a text, the reader of DRAT takes over: it judges what is malformed, and reads binary steps.
 use crate::ahead::{Ahead, Rest};
-use crate::words::{ClauseEnd, push_literals_at, step_begin};
+use crate::clause::ReadClause;
+use crate::cutter::Additions;
+use crate::words::{ClauseEnd, kind_at, step_begin};
 use drat_text::bytes::LOOKED_AT;
 use drat_text::number::is_text_byte;
 use drat_text::{DratFault, DratReader, DratStep, StepNumber};
-use sat_formula::Lit;
 use std::alloc::{AllocError, Global};
 use std::io::Read;
 
@@ -14,27 +15,24 @@ use std::io::Read;
 #[derive(Clone, Copy)]
 pub struct CutStep<'a> {
     pub deletes: bool,
-    /// As they are written; those of a witness are behind the clause.
-    pub lits: &'a [Lit],
+    pub(crate) clause: &'a ReadClause,
     /// The bytes that are just this step, up to an LF, if there are any.
-    pub text: Option<&'a [u8]>,
+    text: Option<&'a [u8]>,
 }
 
-/// The place of a step in the bytes ahead.
-#[derive(Clone, Copy)]
-struct Place {
-    deletes: bool,
-    begin: usize,
-    /// Behind the byte after its 0.
-    end: usize,
-    /// That byte is an LF.
-    is_line: bool,
+impl<'a> CutStep<'a> {
+    /// Returns the text by which the step is written as it is, if there is one.
+    #[inline(always)]
+    pub(crate) fn written(&self) -> Option<&'a [u8]> {
+        self.text.filter(|_| self.clause.is_as_written)
+    }
 }
 
 /// What the bytes ahead begin with.
 #[derive(Clone, Copy)]
 enum Found {
-    Step(Place),
+    /// A step, which was read.
+    Step,
     /// Nothing that is known before more bytes are.
     Open,
     /// What is no plain step.
@@ -45,6 +43,7 @@ enum Found {
 #[derive(Drop)]
 pub struct ProofSteps<R> {
     alloc: Global,
+    additions: Additions,
     /// The bytes ahead were looked at.
     has_begun: bool,
     ahead: Option<Ahead<R>>,
@@ -54,7 +53,7 @@ pub struct ProofSteps<R> {
     count: u64,
     has_step: bool,
     deletes: bool,
-    lits: Vec<Lit>,
+    clause: ReadClause,
     /// Where its text begins and ends in the bytes ahead, if it is a line.
     line: Option<(usize, usize)>,
     /// How many of the bytes ahead are used up.
@@ -63,29 +62,36 @@ pub struct ProofSteps<R> {
 
 impl<R: Read + Drop> ProofSteps<R> {
     /// Returns the steps of a proof, before the first one. Reads nothing yet.
-    pub fn new(alloc: Global, proof: R) -> ProofSteps<R> {
+    pub(crate) fn new(
+        alloc: Global,
+        proof: R,
+        additions: Additions,
+        clause: ReadClause,
+    ) -> ProofSteps<R> {
         ProofSteps {
             alloc,
+            additions,
             has_begun: false,
             ahead: Some(Ahead::new(alloc, proof)),
             drat: None,
             count: 0,
             has_step: false,
             deletes: false,
-            lits: Vec::new(alloc),
+            clause,
             line: None,
             used: 0,
         }
     }
 
     /// Returns the step that was read last. None at the start and at the end of the proof.
+    #[inline(always)]
     pub fn step(&self) -> Option<CutStep<'_>> {
         if !self.has_step {
             return None;
         }
         Some(CutStep {
             deletes: self.deletes,
-            lits: &self.lits,
+            clause: &self.clause,
             text: self.line(),
         })
     }
@@ -101,9 +107,21 @@ impl<R: Read + Drop> ProofSteps<R> {
     /// # Errors
     ///
     /// As for `DratReader::next_step`.
+    #[inline(always)]
     pub fn advance(&mut self) -> Result<bool, DratFault> {
-        self.has_step = false;
         self.line = None;
+        self.has_step = matches!(self.find_step(), Ok(Found::Step));
+        if self.has_step {
+            Ok(true)
+        } else {
+            self.advance_on()
+        }
+    }
+
+    /// Reads the next step where it is not plain or not whole in the bytes ahead.
+    #[cold]
+    #[inline(never)]
+    fn advance_on(&mut self) -> Result<bool, DratFault> {
         if !self.has_begun {
             self.has_begun = true;
             self.look()?;
@@ -143,33 +161,60 @@ impl<R: Read + Drop> ProofSteps<R> {
     fn advance_in_text(&mut self) -> Result<bool, DratFault> {
         // The reads are fewer: each gives a byte.
         for _ in 0..u64::MAX {
-            let Some(ahead) = &mut self.ahead else {
-                break;
-            };
-            ahead.take(self.used);
-            self.used = 0;
-            let found = find(ahead.bytes(), &mut self.lits);
-            match found.map_err(|_| DratFault::OutOfMemory)? {
-                Found::Step(place) => {
-                    self.note(place);
-                    return Ok(true);
-                }
-                Found::Open if ahead.more()? => {}
-                // A blank in front says that it is a text.
-                _ => self.hand_over(b" ")?,
+            match self.find_step().map_err(|_| DratFault::OutOfMemory)? {
+                Found::Step => return Ok(true),
+                Found::Open if self.has_more()? => {}
+                _ => break,
             }
         }
+        // A blank in front says that it is a text.
+        self.hand_over(b" ")?;
         Ok(false)
     }
 
-    /// Notes a step that was found.
-    fn note(&mut self, place: Place) {
-        self.count = self.count.saturating_add(1);
-        self.deletes = place.deletes;
-        self.used = place.end;
-        if place.is_line {
-            self.line = Some((place.begin, place.end));
+    /// Reads once. Returns whether more bytes are ahead.
+    fn has_more(&mut self) -> Result<bool, DratFault> {
+        match &mut self.ahead {
+            Some(ahead) => ahead.more(),
+            None => Ok(false),
         }
+    }
+
+    /// Reads the step that the bytes ahead begin with, if it is plain and whole.
+    fn find_step(&mut self) -> Result<Found, AllocError> {
+        let Some(ahead) = &mut self.ahead else {
+            return Ok(Found::Other);
+        };
+        ahead.take(self.used);
+        self.used = 0;
+        let bytes = ahead.bytes();
+        let Some(begin) = step_begin(bytes) else {
+            return Ok(Found::Open);
+        };
+        let (deletes, first) = kind_at(bytes, begin);
+        let place = match self.clause.read_text(bytes, first)? {
+            ClauseEnd::Zero(place) => place,
+            ClauseEnd::Open => return Ok(Found::Open),
+            ClauseEnd::Other => return Ok(Found::Other),
+        };
+        let is_line = bytes.get(place).copied() == Some(b'\n');
+        self.note(deletes)?;
+        self.count = self.count.saturating_add(1);
+        self.used = place.saturating_add(1);
+        if is_line {
+            self.line = Some((begin, self.used));
+        }
+        Ok(Found::Step)
+    }
+
+    /// Notes the kind of the step whose literals were read, and has its witness apart from them.
+    #[inline(always)]
+    fn note(&mut self, deletes: bool) -> Result<(), AllocError> {
+        self.deletes = deletes;
+        if self.clause.is_as_written || deletes || self.additions == Additions::Drat {
+            return Ok(());
+        }
+        self.clause.split_witness(self.alloc)
     }
 
     /// Reads the next step by the reader of DRAT, if that has taken over. Returns whether there is
@@ -184,11 +229,11 @@ impl<R: Read + Drop> ProofSteps<R> {
             Ok(None) => return Ok(false),
             Err(fault) => return Err(behind(self.count, fault)),
         };
-        self.deletes = deletes;
-        self.lits.clear();
-        match self.lits.extend_from_slice(lits) {
-            Ok(()) => Ok(true),
-            Err(_) => Err(DratFault::OutOfMemory),
+        let is_read = self.clause.read(lits).is_ok() && self.note(deletes).is_ok();
+        if is_read {
+            Ok(true)
+        } else {
+            Err(DratFault::OutOfMemory)
         }
     }
 }
@@ -201,25 +246,5 @@ fn behind(count: u64, fault: DratFault) -> DratFault {
             kind,
         },
         other => other,
-    }
-}
-
-/// Finds the next step in a text, and reads its literals.
-fn find(bytes: &[u8], lits: &mut Vec<Lit>) -> Result<Found, AllocError> {
-    lits.clear();
-    let Some(begin) = step_begin(bytes) else {
-        return Ok(Found::Open);
-    };
-    let deletes = bytes.get(begin) == Some(&b'd');
-    let first = begin.saturating_add(deletes as usize);
-    match push_literals_at(lits, bytes, first)? {
-        ClauseEnd::Zero(place) => Ok(Found::Step(Place {
-            deletes,
-            begin,
-            end: place.saturating_add(1),
-            is_line: bytes.get(place) == Some(&b'\n'),
-        })),
-        ClauseEnd::Open => Ok(Found::Open),
-        ClauseEnd::Other => Ok(Found::Other),
     }
 }

@@ -1,6 +1,7 @@
 //! Reads a proof and writes its pieces.
 use crate::fault::CutFailure;
 use crate::files::PieceFiles;
+use crate::formula::FormulaBytes;
 use crate::piece::{Limits, Piece};
 use command::WrittenFiles;
 use drat_cut::{Additions, Cutter, ProofSteps, Taken};
@@ -26,7 +27,7 @@ pub fn cut<F: Read + Drop, P: Read + Drop, L: Log>(
     let mut cutter = Cutter::new(alloc, additions);
     read_formula(alloc, cnf, &mut cutter)?;
     files.write_live(1, &cutter)?;
-    let mut steps = ProofSteps::new(alloc, proof);
+    let mut steps = cutter.steps(proof)?;
     let mut piece = Piece::new(limits, cutter.live_count());
     // The pieces are fewer: each has a step.
     for number in 1..u64::MAX {
@@ -44,7 +45,7 @@ fn read_formula<F: Read + Drop>(
     cnf: F,
     cutter: &mut Cutter,
 ) -> Result<(), CutFailure> {
-    let mut reader = DimacsReader::new(alloc, cnf);
+    let mut reader = DimacsReader::new(alloc, FormulaBytes::new(cnf));
     let mut clause = Vec::new(alloc);
     // The clauses are fewer: the reader counts its bytes in 64 bits.
     for _ in 0..u64::MAX {

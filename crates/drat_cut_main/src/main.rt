@@ -11,6 +11,7 @@ mod about;
 mod cutting;
 mod fault;
 mod files;
+mod formula;
 mod piece;
 
 use crate::about::ABOUT;

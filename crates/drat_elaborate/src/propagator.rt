@@ -129,39 +129,8 @@ impl Propagator {
     }
 
     /// Propagates the trail from a position on. Returns the clause of a conflict, if there is one.
-    #[inline(always)]
     pub(crate) fn propagate(&mut self, from: usize) -> Result<Option<Block>, ElaborateFault> {
-        let is_clean = self.lately.stale.is_empty() && self.used.stale.is_empty();
-        if is_clean && self.unused.stale.is_empty() && self.dying.watches.stale.is_empty() {
-            self.propagate_clean(from)
-        } else {
-            self.propagate_stale(from)
-        }
-    }
-
-    /// Does what `propagate` does where no list is stale.
-    #[inline(never)]
-    fn propagate_clean(&mut self, from: usize) -> Result<Option<Block>, ElaborateFault> {
-        self.propagate_in(from, true)
-    }
-
-    /// Does what `propagate` does where some lists are stale: each is cleaned once it is visited.
-    #[inline(never)]
-    fn propagate_stale(&mut self, from: usize) -> Result<Option<Block>, ElaborateFault> {
-        self.lately.clean_if_many(&mut self.clauses)?;
-        self.used.clean_if_many(&mut self.clauses)?;
-        self.unused.clean_if_many(&mut self.clauses)?;
-        self.dying.watches.clean_if_many(&mut self.clauses)?;
-        self.propagate_in(from, false)
-    }
-
-    /// Does what `propagate` does; with `is_clean` no list is stale.
-    #[inline(always)]
-    fn propagate_in(
-        &mut self,
-        from: usize,
-        is_clean: bool,
-    ) -> Result<Option<Block>, ElaborateFault> {
+        self.clean_if_many()?;
         let mut heads = Heads {
             lately: from,
             used: Head::at(from),
@@ -171,7 +140,7 @@ impl Propagator {
         };
         // Each step but the last makes a literal true.
         for _ in 0..self.trail.lit_count().saturating_add(1) {
-            match self.advance(&mut heads, is_clean)? {
+            match self.advance(&mut heads)? {
                 Progress::Going => {}
                 Progress::Done => return Ok(None),
                 Progress::Conflict(block) => return Ok(Some(block)),
@@ -182,12 +151,12 @@ impl Propagator {
 
     /// Propagates up to the first clause that is unit or false, used clauses first.
     #[inline(always)]
-    fn advance(&mut self, heads: &mut Heads, is_clean: bool) -> Result<Progress, ElaborateFault> {
-        if let Some(block) = self.advance_lately(heads, is_clean)? {
+    fn advance(&mut self, heads: &mut Heads) -> Result<Progress, ElaborateFault> {
+        if let Some(block) = self.advance_lately(heads)? {
             return Ok(Progress::Conflict(block));
         }
         let (clauses, trail) = (&mut self.clauses, &mut self.trail);
-        match advance_to_unit(clauses, trail, &mut self.used, &mut heads.used, is_clean)? {
+        match advance_to_unit(clauses, trail, &mut self.used, &mut heads.used)? {
             Progress::Done => {}
             progress => return Ok(progress),
         }
@@ -198,16 +167,9 @@ impl Propagator {
             heads.recent = self.trail.len();
         }
         let (clauses, trail) = (&mut self.clauses, &mut self.trail);
-        match advance_to_unit(
-            clauses,
-            trail,
-            &mut self.unused,
-            &mut heads.unused,
-            is_clean,
-        )? {
+        match advance_to_unit(clauses, trail, &mut self.unused, &mut heads.unused)? {
             Progress::Done if !self.dying.is_empty() => {
-                let (watches, head) = (&mut self.dying.watches, &mut heads.dying);
-                advance_to_unit(clauses, trail, watches, head, is_clean)
+                advance_to_unit(clauses, trail, &mut self.dying.watches, &mut heads.dying)
             }
             progress => Ok(progress),
         }
@@ -216,15 +178,11 @@ impl Propagator {
     /// Propagates the trail to its end in the clauses that were used lately. Returns the clause of
     /// a conflict, if there is one.
     #[inline(always)]
-    fn advance_lately(
-        &mut self,
-        heads: &mut Heads,
-        is_clean: bool,
-    ) -> Result<Option<Block>, ElaborateFault> {
+    fn advance_lately(&mut self, heads: &mut Heads) -> Result<Option<Block>, ElaborateFault> {
         let from = self.lately.skip_unwatched(self.trail.lits(), heads.lately);
         if from < self.trail.len() {
             let (clauses, trail) = (&mut self.clauses, &mut self.trail);
-            let conflict = if is_clean {
+            let conflict = if self.lately.stale.is_empty() {
                 let end = trail.lit_count();
                 sweep_on(&mut clauses.arena, trail, &mut self.lately, from, end)?
             } else {
@@ -276,15 +234,13 @@ impl Propagator {
     }
 }
 
-/// Propagates along the trail, up to the first clause that is unit or false. With `is_clean` no
-/// list is stale.
+/// Propagates along the trail, up to the first clause that is unit or false.
 #[inline(always)]
 fn advance_to_unit(
     clauses: &mut Clauses,
     trail: &mut Trail,
     watches: &mut Watches,
     head: &mut Head,
-    is_clean: bool,
 ) -> Result<Progress, ElaborateFault> {
     for _ in head.place..trail.lit_count() {
         let place = watches.skip_unwatched(trail.lits(), head.place);
@@ -292,7 +248,7 @@ fn advance_to_unit(
         let Some(lit) = trail.get(head.place) else {
             break;
         };
-        if !is_clean {
+        if !watches.stale.is_empty() {
             watches.clean(clauses, !lit)?;
         }
         let end = head.end.min(len_of(watches.all(), !lit));

@@ -9,6 +9,7 @@ use crate::clauses::{Clauses, Use};
 use crate::fault::ElaborateFault;
 use crate::lit_set::LitSet;
 use crate::local::LocalLit;
+use crate::propagator::Propagator;
 use crate::watches::{Watch, Watches};
 use std::alloc::Global;
 
@@ -65,6 +66,17 @@ impl StaleLists {
     }
 }
 
+impl Propagator {
+    /// Cleans the stale lists of a kind in which many watches were left.
+    #[inline(always)]
+    pub(crate) fn clean_if_many(&mut self) -> Result<(), ElaborateFault> {
+        self.lately.clean_if_many(&mut self.clauses)?;
+        self.used.clean_if_many(&mut self.clauses)?;
+        self.unused.clean_if_many(&mut self.clauses)?;
+        self.dying.watches.clean_if_many(&mut self.clauses)
+    }
+}
+
 impl Watches {
     /// Removes the watch of a clause from the list of a literal, or notes that the list is stale.
     #[inline(always)]
@@ -87,7 +99,8 @@ impl Watches {
     }
 
     /// Cleans the stale lists, if many watches were left in them.
-    pub(crate) fn clean_if_many(&mut self, clauses: &mut Clauses) -> Result<(), ElaborateFault> {
+    #[inline(always)]
+    fn clean_if_many(&mut self, clauses: &mut Clauses) -> Result<(), ElaborateFault> {
         if self.stale.left.len() >= MANY {
             self.clean_all(clauses)?;
         }
@@ -95,6 +108,7 @@ impl Watches {
     }
 
     /// Cleans the stale lists.
+    #[inline(never)]
     pub(crate) fn clean_all(&mut self, clauses: &mut Clauses) -> Result<(), ElaborateFault> {
         for place in 0..self.stale.left.len() {
             if let Some(lit) = self.stale.left.get(place).copied() {
@@ -105,6 +119,7 @@ impl Watches {
     }
 
     /// Cleans the list of a literal, if it is stale.
+    #[inline(never)]
     pub(crate) fn clean(
         &mut self,
         clauses: &mut Clauses,
