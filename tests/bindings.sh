@@ -59,13 +59,6 @@ queries=$'unsatisfiable under -1 and -3: shown\nsatisfiable under -3: shown'
 export PYTHONDONTWRITEBYTECODE=1
 cd "$work"
 
-# says PROGRAM OUTPUT
-says() {
-  if [[ $("$1") != "$2" ]]; then
-    fault "$1: $("$1")"
-  fi
-}
-
 # One version everywhere.
 case_versions() {
   if [[ $(sort -u <<< "$versions" | wc -l) != 1 || $(wc -l <<< "$versions") != 4 ]]; then
@@ -104,8 +97,8 @@ case_handles() {
     "$work/${name}_checked" 5
     cc -std=c99 -O2 -Wall -Wextra -Werror -I"$header" -o "$work/${name}_example" "$top/bindings/c/${name}_example.c" "$library"
   done
-  says "$work/session_example" $'unsatisfiable under -2: shown\nsatisfiable: shown'
-  says "$work/checker_example" "$queries"
+  expect 0 $'unsatisfiable under -2: shown\nsatisfiable: shown' -- "$work/session_example"
+  expect 0 "$queries" -- "$work/checker_example"
 }
 
 case_memory() {
@@ -137,7 +130,7 @@ case_cpp() {
     "$work/${name}_cpp"
   done
   c++ -std=c++17 -O2 -Wall -Wextra -Werror -I"$header" -o "$work/cpp_example" "$top/bindings/cpp/checker_example.cpp" "$library"
-  says "$work/cpp_example" "$queries"
+  expect 0 "$queries" -- "$work/cpp_example"
 }
 
 # A project outside the repository, in C by pkg-config, and by the static library alone.

@@ -10,16 +10,6 @@ only_with yosys berkeley-abc cadical
 on_path drat_check circuit_check checked circuit_sweep
 cd "$work"
 
-# ends STATUS OUTPUT COMMAND..: it must end so and print this
-ends() {
-  local status=0 said
-  said=$("${@:3}" 2> err) || status=$?
-  if [[ $status != "$1" || $said != "$2" ]]; then
-    printf '%s: status %d, it printed: %s %s\n' "${*:3}" "$status" "$said" "$(cat err)"
-    wrong=1
-  fi
-}
-
 # design NAME [COMMAND]: the circuit NAME.aig of a design, and the same rewritten by ABC, NAME.new.aig
 design() {
   yosys -q -p "read_verilog $top/tests/circuits/$1.v; ${2:-}; synth -flatten -top $1; aigmap; opt_clean; write_aiger $1.aig" > said
@@ -32,13 +22,13 @@ are_equal() {
   grep -q 'Networks are equivalent' said
 }
 
-# same A B OPTION..: two circuits that are equal by ABC
-same() {
+# rewritten A B OPTION..: two circuits that are equal by ABC
+rewritten() {
   if ! are_equal "$1" "$2"; then
     echo "$1 and $2 are not equal by ABC: $(cat said)"
     wrong=1
   fi
-  ends 20 's VERIFIED SAME' checked "${@:3}" --limit 300 --same cadical "$1" "$2"
+  expect 20 's VERIFIED SAME' -- checked "${@:3}" --limit 300 --same cadical "$1" "$2"
 }
 
 # a solver that never ends on the whole formula, and one that also writes text
@@ -55,21 +45,21 @@ case_example() {
     awk -v name="$name.v" '/^```/ { open = $0 == "```verilog " name; next } open' "$using" > "$name.v"
   done
   awk '/^## / { below = $0 == "## Circuits" } /^```/ { open = below && $0 == "```bash"; next } open' "$using" > commands
-  ends 20 's VERIFIED SAME' bash -e commands
+  expect 20 's VERIFIED SAME' -- bash -e commands
 }
 
 case_designs() {
   designs=(alu sha)
   for name in "${designs[@]}"; do
     design "$name"
-    same "$name.aig" "$name.new.aig"
+    rewritten "$name.aig" "$name.new.aig"
   done
   design alu_shared
-  same alu.aig alu_shared.aig
+  rewritten alu.aig alu_shared.aig
 }
 
 case_never() {
-  ends 20 's VERIFIED NEVER' checked --never cadical sums.aig
+  expect 20 's VERIFIED NEVER' -- checked --never cadical sums.aig
 }
 
 # Where the solver never ends, the verdict is by way of equal gates.
@@ -78,14 +68,14 @@ case_sweep() {
   design multiplier
   for name in crc multiplier; do
     are_equal "$name.aig" "$name.new.aig" || wrong=1
-    ends 20 's VERIFIED SAME' checked --sweep-after 0 --keep "$name.drat" --limit 300 --same lazy "$name.aig" "$name.new.aig"
-    ends 0 's VERIFIED SAME' circuit_check same "$name.aig" "$name.new.aig" --proof "$name.drat"
+    expect 20 's VERIFIED SAME' -- checked --sweep-after 0 --keep "$name.drat" --limit 300 --same lazy "$name.aig" "$name.new.aig"
+    expect 0 's VERIFIED SAME' -- circuit_check same "$name.aig" "$name.new.aig" --proof "$name.drat"
   done
 }
 
 case_sweep_text() {
-  ends 20 's VERIFIED SAME' checked --sweep-after 0 --same lazy_text multiplier.aig multiplier.new.aig
-  ends 20 's VERIFIED NEVER' checked --sweep-after 0 --never lazy sums.aig
+  expect 20 's VERIFIED SAME' -- checked --sweep-after 0 --same lazy_text multiplier.aig multiplier.new.aig
+  expect 20 's VERIFIED NEVER' -- checked --sweep-after 0 --never lazy sums.aig
 }
 
 # A wrong gate, or an output that is always false: both by the solver and by way of equal gates the verdict is that the circuits differ.
@@ -111,7 +101,7 @@ case_wrong_gates() {
 
 case_fewer_outputs() {
   python3 -B "$top/tests/circuits/turned.py" fewer multiplier.new.aig fewer.aig
-  ends 2 '' checked --same cadical multiplier.aig fewer.aig
+  expect 2 '' -- checked --same cadical multiplier.aig fewer.aig
   if ! grep -q 'the circuits have different numbers of outputs' err; then
     echo "an output that is left out: $(cat err)"
     wrong=1

@@ -12,24 +12,6 @@ on_path drat_check join_check lrat_check model_check cubes
 count=${1:-100} seed=${2:-1}
 cd "$work"
 
-# same FILE TEXT: the file must hold this
-same() {
-  if [[ $(cat "$1") != "$2" ]]; then
-    printf '%s holds:\n%s\n' "$1" "$(cat "$1")"
-    wrong=1
-  fi
-}
-
-# faults WORDS COMMAND..: it must end with status 2, say why in one line on standard error, with these words, and write nothing else
-faults() {
-  local status=0
-  "${@:2}" > said 2> err || status=$?
-  if [[ $status != 2 || -s said || $(wc -l < err) != 1 || $(cat err) != *"$1"* ]]; then
-    printf '%s: status %d, without "%s" it wrote: %s %s\n' "${*:2}" "$status" "$1" "$(cat said)" "$(cat err)"
-    wrong=1
-  fi
-}
-
 # The four clauses over two variables, with all that a text may have around them.
 printf 'c four\np cnf 2 4\n1 2 0 1\n-2 0\nc of two\n-1 2 0\n -1 -2 00\n%%\n0\n' > four.cnf
 printf 'c by the first variable\na 1 0\n-1 0\n' > two.txt
@@ -51,9 +33,9 @@ case_parts() {
   says 0 $'1\n2\nclosing' cubes names four.cnf two.txt
   says 0 '' cubes parts four.cnf two.txt four
   clauses=$'1 2 0\n1 -2 0\n-1 2 0\n-1 -2 0'
-  same four/1.cnf "p cnf 2 5"$'\n'"$clauses"$'\n'"1 0"
-  same four/2.cnf "p cnf 2 5"$'\n'"$clauses"$'\n'"-1 0"
-  same four/closing.cnf "p cnf 2 6"$'\n'"$clauses"$'\n'"-1 0"$'\n'"1 0"
+  holds four/1.cnf "p cnf 2 5"$'\n'"$clauses"$'\n'"1 0"
+  holds four/2.cnf "p cnf 2 5"$'\n'"$clauses"$'\n'"-1 0"
+  holds four/closing.cnf "p cnf 2 6"$'\n'"$clauses"$'\n'"-1 0"$'\n'"1 0"
   says 1 $'1: no proof\n2: no proof\nclosing: no proof\n3 of 3 parts are not verified' cubes report four.cnf two.txt four
 
   # The unit is clause 5; with it two of the clauses are against each other. In the closing formula the added ones are.
@@ -181,13 +163,13 @@ case_cut_receipt() {
     says 1 $'1: four/1.receipt is cut off\n1 of 3 parts are not verified' cubes report four.cnf two.txt four
     says 0 1 cubes left four.cnf two.txt four
     says 0 '1: four/1.receipt was cut off: it is made again' cubes check four.cnf two.txt four 1
-    same four/1.receipt "$(cat whole)"
+    holds four/1.receipt "$(cat whole)"
     says 0 "$all" cubes report four.cnf two.txt four
   done
   head -c 40 whole > four/1.receipt
   rm four/split
   faults 'cannot write four/1.receipt: there is a file that cubes did not write' cubes check four.cnf two.txt four 1
-  same four/1.receipt "$(head -c 40 whole)"
+  holds four/1.receipt "$(head -c 40 whole)"
   cubes parts four.cnf two.txt marked
   cp four/1.lrat marked
   for text in 'refused sha256' 'refuted sha256 0x' "$(cat whole)0" 'rx'; do
@@ -242,22 +224,22 @@ case_overwrites() {
     says 2 'cannot write ./1.cnf: it is a file that is read, 1.cnf' cubes parts 1.cnf ../two.txt .
     exit "$wrong"
   ) || wrong=1
-  same own/1.cnf "$(cat three.cnf)"
+  holds own/1.cnf "$(cat three.cnf)"
   mkdir theirs
   for name in 2.cnf split; do
     echo theirs > "theirs/$name"
     faults "cannot write theirs/$name: there is a file that cubes did not write" cubes parts four.cnf two.txt theirs
     says 0 "$name" ls theirs
-    same "theirs/$name" theirs
+    holds "theirs/$name" theirs
     rm "theirs/$name"
   done
   says 0 '' cubes parts three.cnf two.txt theirs
   says 0 '' cubes parts four.cnf two.txt theirs
-  same theirs/2.cnf "$(cat four/2.cnf)"
+  holds theirs/2.cnf "$(cat four/2.cnf)"
   cp four/2.lrat theirs
   echo theirs > theirs/2.receipt
   faults 'cannot write theirs/2.receipt: there is a file that cubes did not write' cubes check four.cnf two.txt theirs 1 2
-  same theirs/2.receipt theirs
+  holds theirs/2.receipt theirs
   : > theirs/2.receipt
   says 0 '2: theirs/2.receipt was cut off: it is made again' cubes check four.cnf two.txt theirs 2
   faults 'cannot use own/1.cnf: File exists' cubes parts four.cnf two.txt own/1.cnf
@@ -342,7 +324,7 @@ case_packed() {
     says 0 $'1\n2\nclosing' cubes names four.cnf "two.txt.$end"
     says 0 "$(cat four/2.cnf)" cubes part "four.cnf.$end" "two.txt.$end" 2
     says 0 '' cubes parts "four.cnf.$end" "two.txt.$end" "$end"
-    same "$end/closing.cnf" "$(cat four/closing.cnf)"
+    holds "$end/closing.cnf" "$(cat four/closing.cnf)"
     rm "$end/1.lrat.$end"
     echo 0 | "$tool" -qc > "$end/1.drat.$end"
     says 0 '' cubes check four.cnf two.txt "$end" 1

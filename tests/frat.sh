@@ -11,16 +11,6 @@ set -euo pipefail
 check=$(built drat_check)
 count=${1:-400} seed=${2:-1}
 
-# says STATUS LINE NAME CNF PROOF [OPTION]: what the program answers
-says() {
-  local said status=0
-  said=$("$check" "${@:4}" 2> "$work/err") || status=$?
-  if [[ $status != "$1" || $said != "$2" ]]; then
-    printf '%s: status %d, %s %s\n' "$3" "$status" "$said" "$(cat "$work/err")"
-    wrong=1
-  fi
-}
-
 # by_the_option NAME CNF FRAT TYPE: where the proof's own beginning says something else, the option decides. A text that begins with a
 # long comment is no FRAT without it, nor is a binary proof that begins with a step `a`; and no FRAT is DRAT.
 by_the_option() {
@@ -29,21 +19,21 @@ by_the_option() {
   else
     { printf 'a\x02\x02\x03\x00' && cat "$3"; } > "$work/late"
   fi
-  says 0 's VERIFIED UNSAT' "$1, late" "$2" "$work/late" --frat
-  says 1 '' "$1, late, as it begins" "$2" "$work/late"
-  says 1 '' "$1, late, as DRAT" "$2" "$work/late" --drat
-  says 1 '' "$1, as DRAT" "$2" "$3" --drat
+  expect 0 's VERIFIED UNSAT' -- "$check" "$2" "$work/late" --frat
+  expect 1 '' -- "$check" "$2" "$work/late"
+  expect 1 '' -- "$check" "$2" "$work/late" --drat
+  expect 1 '' -- "$check" "$2" "$3" --drat
 }
 
 # of_lines NAME CNF DRAT: the lines of the proof, as FRAT
 of_lines() {
   local hints way
-  says 0 's VERIFIED UNSAT' "$1" "$2" "$3" --lrat "$work/lrat"
+  expect 0 's VERIFIED UNSAT' -- "$check" "$2" "$3" --lrat "$work/lrat"
   for hints in right wrong none; do
     for way in text binary; do
       python3 -B "$top/tests/drat/frat.py" of_lrat "$2" "$work/lrat" "$hints" "$way" > "$work/frat"
-      says 0 's VERIFIED UNSAT' "$1, $hints hints, $way" "$2" "$work/frat"
-      says 0 's VERIFIED UNSAT' "$1, $hints hints, $way, by the option" "$2" "$work/frat" --frat
+      expect 0 's VERIFIED UNSAT' -- "$check" "$2" "$work/frat"
+      expect 0 's VERIFIED UNSAT' -- "$check" "$2" "$work/frat" --frat
       by_the_option "$1, $hints hints, $way" "$2" "$work/frat" "$way"
       head -c "$(($(stat -c %s "$work/frat") / 2))" "$work/frat" > "$work/half"
       "$check" "$2" "$work/half" > "$work/said" 2> "$work/err" || true
@@ -75,7 +65,7 @@ case_cryptominisat() {
   only_with cryptominisat5
   for name in pigeons random; do
     cryptominisat5 --verb 0 "$work/$name.cnf" "$work/frat" > "$work/said" || true
-    says 0 's VERIFIED UNSAT' "cryptominisat $name" "$work/$name.cnf" "$work/frat"
+    expect 0 's VERIFIED UNSAT' -- "$check" "$work/$name.cnf" "$work/frat"
   done
 }
 

@@ -13,16 +13,6 @@ own=$top/tests/ipasir
 layer=$top/bindings/ipasir/ipasir_checked.cpp
 cd "$work"
 
-# ends STATUS OUTPUT ERRORS COMMAND..: it must end so, and write this to standard output and to standard error
-ends() {
-  local status=0 said
-  said=$("${@:4}" 2> err) || status=$?
-  if [[ $status != "$1" || $said != "$2" || $(cat err) != "$3" ]]; then
-    printf '%s: status %d, it wrote:\n%s\n%s\n' "${*:4}" "$status" "$said" "$(cat err)"
-    wrong=1
-  fi
-}
-
 # shown COUNTS: the line of a process whose answers all are shown: `A satisfiable, B unsatisfiable`, and `, C unknown` if there are any
 shown() {
   local yes no open
@@ -166,11 +156,11 @@ case_clients() {
     c++ -o "${program}_alone" "$program.o" lib/libcefindrato_ipasir.a
   done
   found='50 satisfiable, 250 unsatisfiable'
-  ends 0 "$found" "$(shown "$found")" ./circuit 5 50
-  ends 0 "$found" "$(shown "$found")" ./circuit_alone 5 50
+  expect 0 "$found" "$(shown "$found")" -- ./circuit 5 50
+  expect 0 "$found" "$(shown "$found")" -- ./circuit_alone 5 50
   agrees ./resolver 80 300
   agrees ./resolver_alone 80 300
-  SESSION_CHECK=strikt ends 2 '' 'cefindrato: SESSION_CHECK is neither strict nor count' ./circuit 2 2
+  SESSION_CHECK=strikt expect 2 '' 'cefindrato: SESSION_CHECK is neither strict nor count' -- ./circuit 2 2
 }
 
 # Random sessions, small ones each against all assignments; large ones where much is deleted, eliminated and restored, and the layer
@@ -203,11 +193,11 @@ case_lying() {
 # Several solvers. What a forked child counts is its own; one that ends by itself says nothing on standard error.
 case_several() {
   over_cadical
-  ends 0 '' "$(shown '6 satisfiable, 6 unsatisfiable')" ./several threads
-  ends 0 '' "$(shown '2 satisfiable, 2 unsatisfiable')" ./several orders
-  ends 0 '' "$(shown '1 satisfiable, 1 unsatisfiable')" ./several forked
-  ends 0 '' "$(shown '0 satisfiable, 1 unsatisfiable, 1 unknown')" ./several calls
-  ends 0 '' "$(shown '4 satisfiable, 7 unsatisfiable')" ./several edges
+  expect 0 '' "$(shown '6 satisfiable, 6 unsatisfiable')" -- ./several threads
+  expect 0 '' "$(shown '2 satisfiable, 2 unsatisfiable')" -- ./several orders
+  expect 0 '' "$(shown '1 satisfiable, 1 unsatisfiable')" -- ./several forked
+  expect 0 '' "$(shown '0 satisfiable, 1 unsatisfiable, 1 unknown')" -- ./several calls
+  expect 0 '' "$(shown '4 satisfiable, 7 unsatisfiable')" -- ./several edges
 }
 
 case_sanitized() {
@@ -218,9 +208,9 @@ case_sanitized() {
     for program in several random_sessions; do
       c++ "${sanitized[@]}" "${client[@]}" -o "${program}_sanitized" "$own/$program.cpp" sanitized.o lib/libcefindrato.a -lcadical
     done
-    ends 0 '' "$(shown '6 satisfiable, 6 unsatisfiable')" ./several_sanitized threads
+    expect 0 '' "$(shown '6 satisfiable, 6 unsatisfiable')" -- ./several_sanitized threads
     if [[ $checks != thread ]]; then
-      ends 0 '' "$(shown '4 satisfiable, 7 unsatisfiable')" ./several_sanitized edges
+      expect 0 '' "$(shown '4 satisfiable, 7 unsatisfiable')" -- ./several_sanitized edges
       agrees ./random_sessions_sanitized 3 30 13
       agrees ./random_sessions_sanitized 3 2 90
     fi
@@ -243,16 +233,16 @@ case_valgrind() {
 # another place than that of the test, with a blank in its name.
 case_run() {
   over_cadical
-  ends 1 'wrong: no clause, and a variable that none has' '' ./other edges
-  ends 2 '' "verified: no layers in $place/bin/../lib" "${run[@]}" ./other edges
+  expect 1 'wrong: no clause, and a variable that none has' '' -- ./other edges
+  expect 2 '' "verified: no layers in $place/bin/../lib" -- "${run[@]}" ./other edges
   cp lib/libcefindrato_ipasir.so "$place/lib/"
-  ends 0 '' "$(shown '4 satisfiable, 7 unsatisfiable')" "${run[@]}" ./other edges
-  ends 0 '' "$(shown '2 satisfiable, 2 unsatisfiable')" "${run[@]}" ./other forked
-  ends 5 '' "$(shown '8 satisfiable, 14 unsatisfiable')" "${run[@]}" bash -c './other edges & ./other edges; wait; exit 5'
-  ends 3 '' 'cefindrato: no answer was seen' "${run[@]}" true
-  ends 2 '' 'verified: --run takes a program and its words (verified --help says how it is called)' "${run[@]}"
+  expect 0 '' "$(shown '4 satisfiable, 7 unsatisfiable')" -- "${run[@]}" ./other edges
+  expect 0 '' "$(shown '2 satisfiable, 2 unsatisfiable')" -- "${run[@]}" ./other forked
+  expect 5 '' "$(shown '8 satisfiable, 14 unsatisfiable')" -- "${run[@]}" bash -c './other edges & ./other edges; wait; exit 5'
+  expect 3 '' 'cefindrato: no answer was seen' -- "${run[@]}" true
+  expect 2 '' 'verified: --run takes a program and its words (verified --help says how it is called)' -- "${run[@]}"
   # (a process that is killed has said what it counted)
-  ends 4 '' "$(shown '4 satisfiable, 7 unsatisfiable')" "${run[@]}" bash -c '{ ./other killed; } 2> /dev/null; exit 4'
+  expect 4 '' "$(shown '4 satisfiable, 7 unsatisfiable')" -- "${run[@]}" bash -c '{ ./other killed; } 2> /dev/null; exit 4'
 }
 
 # The same over a solver that lies.
@@ -280,7 +270,7 @@ case_picosat() {
   cc -O2 -o picosat_resolver "$top/tests/sessions/resolver.c" -lpicosat
   IFS=' ' read -r yes _ no _ <<< "$(./picosat_resolver 20 20)"
   # shellcheck disable=SC2016 # the shell that is run expands it
-  ends 0 '' "$(shown "$((yes + 4)) satisfiable, $((no + 7)) unsatisfiable")" "${run[@]}" bash -c './picosat_resolver 20 20 > /dev/null; ./other edges'
+  expect 0 '' "$(shown "$((yes + 4)) satisfiable, $((no + 7)) unsatisfiable")" -- "${run[@]}" bash -c './picosat_resolver 20 20 > /dev/null; ./other edges'
 }
 
 try_cases

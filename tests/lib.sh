@@ -217,6 +217,40 @@ same() {
   fi
 }
 
+# holds FILE TEXT: the file must hold this
+holds() {
+  if [[ $(< "$1") != "$2" ]]; then
+    printf '%s holds:\n%s\n' "$1" "$(< "$1")"
+    wrong=1
+  fi
+}
+
+# expect STATUS OUT [ERR] -- COMMAND..: the call must end so, and write this to standard output, and this to standard error if it is named. What
+# it writes is in the files `out` and `err` of `work`.
+expect() {
+  local status=0 wanted=$1 out=$2 err='' is_named=''
+  shift 2
+  if [[ $1 != -- ]]; then
+    is_named=yes err=$1
+    shift
+  fi
+  "${@:2}" > "$work/out" 2> "$work/err" || status=$?
+  if [[ $status != "$wanted" || $(< "$work/out") != "$out" || ($is_named && $(< "$work/err") != "$err") ]]; then
+    printf '%s: status %d, it wrote:\n%s\n%s\n' "${*:2}" "$status" "$(< "$work/out")" "$(< "$work/err")"
+    wrong=1
+  fi
+}
+
+# faults WORDS COMMAND..: the call must end with status 2, say why in one line on standard error, with these words, and write nothing else
+faults() {
+  local status=0
+  "${@:2}" > "$work/out" 2> "$work/err" || status=$?
+  if [[ $status != 2 || -s $work/out || $(wc -l < "$work/err") != 1 || $(< "$work/err") != *"$1"* ]]; then
+    printf '%s: status %d, without "%s" it wrote: %s %s\n' "${*:2}" "$status" "$1" "$(< "$work/out")" "$(< "$work/err")"
+    wrong=1
+  fi
+}
+
 # says STATUS OUTPUT COMMAND..: the call must end so, and write this to both streams together
 says() {
   local status=0 said

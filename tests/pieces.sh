@@ -24,24 +24,6 @@ fails() {
   fi
 }
 
-# same FILE TEXT: the file must hold this
-same() {
-  if [[ $(cat "$1") != "$2" ]]; then
-    printf '%s holds:\n%s\n' "$1" "$(cat "$1")"
-    wrong=1
-  fi
-}
-
-# faults WORDS COMMAND..: it must end with status 2, say why in one line on standard error, with these words, and write nothing else
-faults() {
-  local status=0
-  "${@:2}" > said 2> err || status=$?
-  if [[ $status != 2 || -s said || $(wc -l < err) != 1 || $(cat err) != *"$1"* ]]; then
-    printf '%s: status %d, without "%s" it wrote: %s %s\n' "${*:2}" "$status" "$1" "$(cat said)" "$(cat err)"
-    wrong=1
-  fi
-}
-
 # ends STATUS PATTERN COMMAND..: it must end so, and write what matches to standard output
 ends() {
   local status=0 said
@@ -110,10 +92,10 @@ case_drat_cut() {
   says 0 $'piece 1: 3 lemmas, 5 clauses live behind it\npiece 2: 2 lemmas, 7 clauses live behind it' \
     drat_cut eight.cnf eight.drat cut. --lemmas 1
   rest=$'-1 -2 3 0\n-1 -2 -3 0'
-  same cut.1.drat $'1 2 0\nd 1 2 3 0\nd 1 2 -3 0\n1 -2 0\nd -2 3 1 0\nd 1 -2 -3 0\n-1 2 0\nd -1 2 3 0\nd -1 2 -3 0'
-  same cut.2.drat $'-1 -2 0\n1 0'
-  same <(sort cut.2.cnf) "$(printf '%s\n' 'p cnf 3 5' "$rest" '1 2 0' '1 -2 0' '-1 2 0' | sort)"
-  same <(sort cut.1.cnf) "$(printf '%s\n' 'p cnf 3 8' "$(sed -n '3,10p' eight.cnf)" | sort)"
+  holds cut.1.drat $'1 2 0\nd 1 2 3 0\nd 1 2 -3 0\n1 -2 0\nd -2 3 1 0\nd 1 -2 -3 0\n-1 2 0\nd -1 2 3 0\nd -1 2 -3 0'
+  holds cut.2.drat $'-1 -2 0\n1 0'
+  holds <(sort cut.2.cnf) "$(printf '%s\n' 'p cnf 3 5' "$rest" '1 2 0' '1 -2 0' '-1 2 0' | sort)"
+  holds <(sort cut.1.cnf) "$(printf '%s\n' 'p cnf 3 8' "$(sed -n '3,10p' eight.cnf)" | sort)"
   says 0 's VERIFIED PIECE' drat_check eight.cnf cut.1.drat --holds cut.2.cnf
   says 0 's VERIFIED UNSAT' drat_check cut.2.cnf cut.2.drat
 }
@@ -188,9 +170,9 @@ case_endless_formula() {
 case_witness() {
   printf '1 2 2 1 -3 0\nd 2 1 0\n' > witness
   says 3 'piece 1: 1 lemmas, 8 clauses live behind it' drat_cut eight.cnf witness dpr.
-  same dpr.1.drat $'1 2 1 -3 0\nd 2 1 0'
+  holds dpr.1.drat $'1 2 1 -3 0\nd 2 1 0'
   says 3 'piece 1: 1 lemmas, 9 clauses live behind it' drat_cut eight.cnf witness drat. --drat
-  same drat.1.drat '1 2 -3 0'
+  holds drat.1.drat '1 2 -3 0'
 }
 
 # The same by `pieces`, into a folder in which others lie: what has the name of a piece stays, unless an earlier cut has marked the folder.
@@ -205,7 +187,7 @@ case_folder() {
       says 2 "cannot write two/$name: there is a file that pieces did not write" "${words[@]}"
     done
     says 0 "$name"$'\nnotes' ls two
-    same "two/$name" theirs
+    holds "two/$name" theirs
     rm "two/$name"
   done
   says 0 'cut into 2 pieces' "${cut[@]}"
@@ -370,7 +352,7 @@ case_cut_off() {
   for text in 'carried sha256 ' 'carries sha256 0g' "$(cat carries) "; do
     printf '%s' "$text" > two/1.receipt
     faults 'cannot write two/1.receipt: there is a file that pieces did not write' pieces check eight.cnf two 1
-    same two/1.receipt "$text"
+    holds two/1.receipt "$text"
   done
 }
 
@@ -387,7 +369,7 @@ case_digits() {
 # told COMMAND..: it must end well, and write these lines to standard error, in any order
 told() {
   "${@:2}" > said 2> err || { cat err; wrong=1; }
-  same <(sort err) "$1"
+  holds <(sort err) "$1"
 }
 
 # A line for a piece that is verified, where it is asked for and on a terminal.
@@ -399,7 +381,7 @@ case_verbose() {
   told "$both" pieces run eight.cnf eight.drat ran --lemmas 1 --verbose
   told "$both" pieces run eight.cnf eight.drat ran --lemmas 1 --memory --verbose
   pieces check --verbose seven.cnf two 1 2 > said 2> err || true
-  same err '2: verified'
+  holds err '2: verified'
   fails 0 '1: verified' python3 -c 'import pty, sys; sys.exit(pty.spawn(sys.argv[1:]) >> 8)' pieces run eight.cnf eight.drat ran --lemmas 1
 }
 
@@ -438,7 +420,7 @@ case_jobs() {
   chmod +x bin/in_order
   processor=$(taskset -pc $$ | sed 's/.*: \([0-9]*\).*/\1/')
   DRAT_CHECK=in_order says 0 "$whole" taskset -c "$processor" pieces run eight.cnf eight.drat ran --lemmas 1
-  same order $'begin\nend\nbegin\nend'
+  holds order $'begin\nend\nbegin\nend'
 }
 
 # The last piece first: each shows what the one behind it has used, and no more. A lemma that is wrong and that no piece needs is refused
@@ -498,11 +480,11 @@ case_overwrites() {
     says 0 "$whole" pieces run - - ran --lemmas 1 < 7.drat
     exit "$wrong"
   ) < short || wrong=1
-  same own/7.drat "$(cat eight.drat)"
+  holds own/7.drat "$(cat eight.drat)"
   "${cut[@]}" > said
   echo theirs > two/1.receipt
   faults 'cannot write two/1.receipt: there is a file that pieces did not write' pieces check eight.cnf two 2 1
-  same two/1.receipt theirs
+  holds two/1.receipt theirs
   rm two/1.receipt
 }
 
@@ -568,7 +550,7 @@ case_packed() {
     packed=("eight.cnf.$end" "eight.drat.$end" "$end" --lemmas 1)
     says 0 'cut into 2 pieces' pieces cut "${packed[@]}"
     for file in 1.cnf 1.drat 2.cnf 2.drat; do
-      same "$end/$file" "$(cat "two/$file")"
+      holds "$end/$file" "$(cat "two/$file")"
     done
     says 0 '' pieces check "eight.cnf.$end" "$end" 2 1
     says 0 "$whole" pieces report eight.cnf "$end"
@@ -795,7 +777,7 @@ END
   refuted='s VERIFIED UNSAT BY '
   stopped
   goes_on 0 "$refuted"
-  same tried $'last/3.cnf\nlast/2.cnf\nformula.cnf'
+  holds tried $'last/3.cnf\nlast/2.cnf\nformula.cnf'
   # as_core: what lived before the fourth piece is damaged as its core is
   as_core() {
     cp last/4.cnf last/4.all
@@ -816,7 +798,7 @@ END
   stopped
   turns last/4.cnf 2
   goes_on 0 "$refuted"
-  same tried $'last/4.all\nlast/3.cnf\nlast/2.cnf\nformula.cnf'
+  holds tried $'last/4.all\nlast/3.cnf\nlast/2.cnf\nformula.cnf'
   stopped
   turns last/3.cnf '2,$'
   goes_on 1 'pieces are not verified'
@@ -824,7 +806,7 @@ END
   stopped
   echo '1000 0' >> last/4.cnf
   goes_on 0 "$refuted"
-  same tried $'last/4.all\nlast/3.cnf\nlast/2.cnf\nformula.cnf'
+  holds tried $'last/4.all\nlast/3.cnf\nlast/2.cnf\nformula.cnf'
   # the clauses have taken their place, and the record is not written, or is of others
   stopped
   rm last/4.receipt
@@ -832,7 +814,7 @@ END
   stopped
   sed -i 's/sha256 [0-9a-f]*/sha256 0000000000000000000000000000000000000000000000000000000000000000/' last/4.receipt
   goes_on 0 "$refuted"
-  same tried $'last/4.all\nlast/3.cnf\nlast/2.cnf\nformula.cnf'
+  holds tried $'last/4.all\nlast/3.cnf\nlast/2.cnf\nformula.cnf'
   stopped
   fails 0 "$refuted" pieces run formula.cnf cook.drat last --lemmas 100 --live 100000 --memory
   stopped

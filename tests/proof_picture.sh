@@ -5,16 +5,6 @@ set -euo pipefail
 cd "$work"
 picture=$top/tools/proof_picture
 
-# says STATUS OUTPUT WORDS..: the call must end so, and write this to both streams together
-says() {
-  local status=0 said
-  said=$("$picture" "${@:3}" 2>&1) || status=$?
-  if [[ $status != "$1" || $said != "$2" ]]; then
-    printf 'proof_picture %s: status %d, it wrote:\n%s\n' "${*:3}" "$status" "$said"
-    wrong=1
-  fi
-}
-
 # whole FILE RECTANGLES: it is XML, with this many of them at least
 whole() {
   local count
@@ -33,7 +23,7 @@ case_by_hand() {
   says 0 'c formula: 5 of 6 clauses are used (83 %)
 c proof: 3 steps, 1 of them RAT; 2 deletions
 c hints: 9, 3.0 a step, at most 4
-c clauses: mean length 1.3, median 1, longest 3' six.cnf six.lrat six.svg
+c clauses: mean length 1.3, median 1, longest 3' "$picture" six.cnf six.lrat six.svg
   whole six.svg 100
 }
 
@@ -47,7 +37,7 @@ case_packed() {
     "$picture" "six.cnf.$end" "six.lrat.$end" packed.svg > said || wrong=1
     cmp packed.svg plain.svg || wrong=1
     head -c -5 "six.lrat.$end" > "cut.lrat.$end"
-    says 1 "cut.lrat.$end: $tool can't unpack it" six.cnf "cut.lrat.$end" packed.svg
+    says 1 "cut.lrat.$end: $tool can't unpack it" "$picture" six.cnf "cut.lrat.$end" packed.svg
   done
 }
 
@@ -83,24 +73,24 @@ case_unread() {
 case_faults() {
   "$picture" six.cnf six.lrat six.svg > said
   cp six.svg before
-  says 1 'six.cnf: line 2: no line of LRAT text' six.cnf six.cnf six.svg
-  says 1 '/dev/null: no steps' six.cnf /dev/null six.svg
+  says 1 'six.cnf: line 2: no line of LRAT text' "$picture" six.cnf six.cnf six.svg
+  says 1 '/dev/null: no steps' "$picture" six.cnf /dev/null six.svg
   printf '7 1 0 1 2\n' > cut.lrat
-  says 1 'cut.lrat: line 1: no line of LRAT text' six.cnf cut.lrat six.svg
-  says 2 'cannot open none.cnf: No such file or directory' none.cnf six.lrat six.svg
-  says 2 'cannot write six.cnf/svg: Not a directory' six.cnf six.lrat six.cnf/svg
+  says 1 'cut.lrat: line 1: no line of LRAT text' "$picture" six.cnf cut.lrat six.svg
+  says 2 'cannot open none.cnf: No such file or directory' "$picture" none.cnf six.lrat six.svg
+  says 2 'cannot write six.cnf/svg: Not a directory' "$picture" six.cnf six.lrat six.cnf/svg
   more='(proof_picture --help says how it is called)'
-  says 2 "it takes CNF, LRAT and SVG, and not 2 words $more" six.cnf six.lrat
-  says 2 "it takes CNF, LRAT and SVG, and not 0 words $more"
-  says 2 "there is no option --halp $more" --halp
-  says 2 "there is no option --halp $more" six.cnf six.lrat six.svg --halp
-  says 2 "it takes CNF, LRAT and SVG, and not 4 words $more" six.cnf six.lrat six.svg more.svg
-  says 2 'cannot write -: the picture is a file, and standard output has lines that say how large the proof is' six.cnf six.lrat -
-  says 2 'cannot write six.cnf: it is six.cnf, which is read' six.cnf six.lrat six.cnf
+  says 2 "it takes CNF, LRAT and SVG, and not 2 words $more" "$picture" six.cnf six.lrat
+  says 2 "it takes CNF, LRAT and SVG, and not 0 words $more" "$picture"
+  says 2 "there is no option --halp $more" "$picture" --halp
+  says 2 "there is no option --halp $more" "$picture" six.cnf six.lrat six.svg --halp
+  says 2 "it takes CNF, LRAT and SVG, and not 4 words $more" "$picture" six.cnf six.lrat six.svg more.svg
+  says 2 'cannot write -: the picture is a file, and standard output has lines that say how large the proof is' "$picture" six.cnf six.lrat -
+  says 2 'cannot write six.cnf: it is six.cnf, which is read' "$picture" six.cnf six.lrat six.cnf
   version=$(sed -n 's/^const VERSION: &str = "\([^"]*\).*/\1/p' "$top/crates/command/src/status.rt")
   for flag in -V --version; do
-    says 0 "proof_picture $version" "$flag"
-    says 0 "proof_picture $version" six.cnf "$flag" six.lrat
+    says 0 "proof_picture $version" "$picture" "$flag"
+    says 0 "proof_picture $version" "$picture" six.cnf "$flag" six.lrat
   done
   if [[ $("$picture" -h) != "$("$picture" --help)" || $("$picture" -h) != 'usage: proof_picture CNF LRAT SVG'* ]]; then
     echo "-h: $("$picture" -h)"
@@ -108,7 +98,7 @@ case_faults() {
   fi
   # a name that begins with a dash, behind --
   cp six.lrat ./-six.lrat
-  says 0 "$("$picture" six.cnf six.lrat dash.svg)" -- six.cnf -six.lrat -six.svg
+  says 0 "$("$picture" six.cnf six.lrat dash.svg)" "$picture" -- six.cnf -six.lrat -six.svg
   cmp -s six.svg ./-six.svg || wrong=1
   if ! cmp -s six.svg before || [[ $(find . -name '*.new' -o -name '.new-*' -o -name -) ]]; then
     echo "what was there is lost: $(ls)"

@@ -70,8 +70,8 @@ from records import Record
 Record("crates/high").note({"one": "clause", "three": "proof"})'
 cp -r crates kept
 
-# says STATUS WORDS WHAT FILE FROM TO: what is said, and with which status, where this is changed in the file.
-says() {
+# changed STATUS WORDS WHAT FILE FROM TO: what is said, and with which status, where this is changed in the file.
+changed() {
   local status=0
   sed -i "s/$5/$6/" "crates/$4"
   if cmp -s "crates/$4" "kept/$4"; then
@@ -87,38 +87,38 @@ own='wrong bodies were not tried since these changed; run'
 below='wrong bodies are to be tried again over the definitions and clauses below, by --stale'
 
 case_below() {
-  says 0 '' 'a comment below' low/src/lib.rt 'A number' 'One number'
-  says 0 '' 'a body below' low/src/lib.rt 'let seven = own();' 'let seven = 7;'
-  says 0 '' 'the body of a method below' low/src/lib.rt false true
-  says 0 '' 'an import of code below' low/src/lib.rt 'use std::alloc' 'use std::mem'
-  says 0 '' 'a private contract below' low/src/lib.rt '5 + 2' '4 + 3'
-  says 0 '' 'a contract that is not called' low/src/lib.rt nine ten
-  says 0 '' 'a definition that is not cited' low/specs/Unused.antt nine ten
-  says 1 "$below" 'a contract below' low/src/lib.rt 'result ≡ 7' 'result ≡ 8'
-  says 1 "$below" 'a contract of a trait below' low/src/lib.rt counted tallied
-  says 1 "$below" 'a contract of a method with a body' low/src/lib.rt wanting lacking
-  says 1 "$below" 'a definition below' low/specs/Numbers.antt 'seven :' 'eight :'
-  says 1 "$below" 'a definition that one below cites' low/specs/Units.antt unit one
-  says 1 "$below" 'a definition below that is imported from elsewhere' low/specs/Numbers.antt Units Unused
+  changed 0 '' 'a comment below' low/src/lib.rt 'A number' 'One number'
+  changed 0 '' 'a body below' low/src/lib.rt 'let seven = own();' 'let seven = 7;'
+  changed 0 '' 'the body of a method below' low/src/lib.rt false true
+  changed 0 '' 'an import of code below' low/src/lib.rt 'use std::alloc' 'use std::mem'
+  changed 0 '' 'a private contract below' low/src/lib.rt '5 + 2' '4 + 3'
+  changed 0 '' 'a contract that is not called' low/src/lib.rt nine ten
+  changed 0 '' 'a definition that is not cited' low/specs/Unused.antt nine ten
+  changed 1 "$below" 'a contract below' low/src/lib.rt 'result ≡ 7' 'result ≡ 8'
+  changed 1 "$below" 'a contract of a trait below' low/src/lib.rt counted tallied
+  changed 1 "$below" 'a contract of a method with a body' low/src/lib.rt wanting lacking
+  changed 1 "$below" 'a definition below' low/specs/Numbers.antt 'seven :' 'eight :'
+  changed 1 "$below" 'a definition that one below cites' low/specs/Units.antt unit one
+  changed 1 "$below" 'a definition below that is imported from elsewhere' low/specs/Numbers.antt Units Unused
 }
 
 # A crate that waits to be tried anew is let pass while it does, and no longer.
 case_waiting() {
   echo high >> tests/wrong_bodies/waiting.txt
-  says 0 '' 'a contract below' low/src/lib.rt 'result ≡ 7' 'result ≡ 8'
-  says 0 '' 'a body of the crate' high/src/lib.rt 'let two' 'let deux'
-  says 1 'these are tried over what stands now, and tests/wrong_bodies/waiting.txt is not to name them' 'a comment below' \
+  changed 0 '' 'a contract below' low/src/lib.rt 'result ≡ 7' 'result ≡ 8'
+  changed 0 '' 'a body of the crate' high/src/lib.rt 'let two' 'let deux'
+  changed 1 'these are tried over what stands now, and tests/wrong_bodies/waiting.txt is not to name them' 'a comment below' \
     low/src/lib.rt 'A number' 'One number'
 }
 
 case_own() {
-  says 1 "$own" 'a body of the crate' high/src/lib.rt 'let two' 'let deux'
-  says 1 "$own" 'a definition of a clause that is imported from elsewhere' high/src/lib.rt specs.Numbers specs.Unused
-  says 1 "$own" 'a definition of the crate' high/specs/Twos.antt two three
-  says 1 "$own" 'a wrong body' high/wrong-bodies/wrong-bodies.txt 'new: = 3' 'new: = 4'
-  says 1 "$own" 'a new wrong body' high/wrong-bodies/wrong-bodies.txt '# three' '# four\nold: = number();\nnew: = 4;\n\n# three'
-  says 1 "$own" 'a heading that is gone' high/wrong-bodies/wrong-bodies.txt '# three' ''
-  says 1 "$own
+  changed 1 "$own" 'a body of the crate' high/src/lib.rt 'let two' 'let deux'
+  changed 1 "$own" 'a definition of a clause that is imported from elsewhere' high/src/lib.rt specs.Numbers specs.Unused
+  changed 1 "$own" 'a definition of the crate' high/specs/Twos.antt two three
+  changed 1 "$own" 'a wrong body' high/wrong-bodies/wrong-bodies.txt 'new: = 3' 'new: = 4'
+  changed 1 "$own" 'a new wrong body' high/wrong-bodies/wrong-bodies.txt '# three' '# four\nold: = number();\nnew: = 4;\n\n# three'
+  changed 1 "$own" 'a heading that is gone' high/wrong-bodies/wrong-bodies.txt '# three' ''
+  changed 1 "$own
 wrong bodies that each run tries are not there" 'one of each run that is gone' high/wrong-bodies/wrong-bodies.txt '# one' '# eins'
 }
 

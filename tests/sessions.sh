@@ -10,31 +10,13 @@ set -euo pipefail
 on_path drat_check lrat_check model_check sessions
 cd "$work"
 
-# ends STATUS OUTPUT COMMAND..: the call must end so, and write this to both streams together
-ends() {
-  local status=0 said
-  said=$("${@:3}" 2>&1) || status=$?
-  if [[ $status != "$1" || $said != "$2" ]]; then
-    printf '%s: status %d, it wrote:\n%s\n' "${*:3}" "$status" "$said"
-    wrong=1
-  fi
-}
-
-# says STATUS OUTPUT COMMAND..: the same, and with the proof in binary too, if it is `sessions check` of a proof that has such a form
+# checks STATUS OUTPUT COMMAND..: says that, and with the proof in binary too, if it is `sessions check` of a proof that has such a form
 twins=0
-says() {
-  ends "$@"
+checks() {
+  says "$@"
   if [[ $# == 6 && $3 == sessions && $4 == check && -f $6 ]] && python3 -B "$top/tests/sessions/binary.py" "$6" binary.proof; then
-    ends "$1" "${2//"$6"/binary.proof}" sessions check "$5" binary.proof
+    says "$1" "${2//"$6"/binary.proof}" sessions check "$5" binary.proof
     twins=$((twins + 1))
-  fi
-}
-
-# same FILE TEXT: the file must hold this
-same() {
-  if [[ $(cat "$1") != "$2" ]]; then
-    printf '%s holds:\n%s\n' "$1" "$(cat "$1")"
-    wrong=1
   fi
 }
 
@@ -120,7 +102,7 @@ records() {
     echo "${*:4}: with a record it finds something else"
     wrong=1
   fi
-  says 0 "all answers are shown: $2, 0 unknown, in $3" sessions check "$1"
+  checks 0 "all answers are shown: $2, 0 unknown, in $3" sessions check "$1"
 }
 
 # lies FOLDER FROM TO: an answer of the record is turned around, and that is found
@@ -135,23 +117,23 @@ lies() {
 }
 
 case_check() {
-  says 0 "$all" sessions check two.icnf two.idrup
+  checks 0 "$all" sessions check two.icnf two.idrup
   for words in '--no-deletions check two.icnf two.idrup' 'check --no-deletions two.icnf two.idrup' 'check two.icnf two.idrup --no-deletions'; do
     # shellcheck disable=SC2086
-    says 0 "$all" sessions $words
+    checks 0 "$all" sessions $words
   done
-  says 0 "$all" sessions check two.icnf two.lidrup
+  checks 0 "$all" sessions check two.icnf two.lidrup
   # As CaDiCaL writes them: without a header, which the name stands for.
   for kind in idrup lidrup; do
     sed 1d "two.$kind" > "plain.$kind"
     gzip -k "plain.$kind"
-    says 0 "$all" sessions check two.icnf "plain.$kind"
-    says 0 "$all" sessions check two.icnf "plain.$kind.gz"
+    checks 0 "$all" sessions check two.icnf "plain.$kind"
+    checks 0 "$all" sessions check two.icnf "plain.$kind.gz"
   done
   cp plain.lidrup plain
-  says 1 'proof: line 1: no header, and the name does not end in .idrup or .lidrup' sessions check two.icnf plain
+  checks 1 'proof: line 1: no header, and the name does not end in .idrup or .lidrup' sessions check two.icnf plain
   sed '1s/^i/x/' plain.lidrup > wrong.lidrup
-  says 1 "$(for query in 1:4 2:7 3:11 4:13; do
+  checks 1 "$(for query in 1:4 2:7 3:11 4:13; do
     echo "query ${query%:*} of line ${query#*:}: no answer to it: proof: line 1: not expected here"
   done)
 4 of 4 answers are not shown" sessions check two.icnf wrong.lidrup
@@ -160,47 +142,47 @@ case_check() {
 
 # The formula is the one of the worked rows in crates/refutation_rules/specs/SessionRows.antt.
 case_written() {
-  says 0 '' sessions write two.icnf two.idrup made
-  same made/session.cnf $'p cnf 7 10\n4 6 0\n-4 3 0\n-5 3 0\n-3 -1 -2 0\n-4 1 0\n-4 2 0\n-6 5 0\n-7 5 0\n-5 1 0\n-6 2 0'
-  same made/session.drat $'-4 0\n-5 -2 0\n-6 0\n0'
-  same made/models.cnf $'p cnf 5 2\n-2 -5 0\n2 0'
-  same made/models.answer '2 -3 4 -5 0'
-  says 0 's VERIFIED UNSAT' drat_check made/session.cnf made/session.drat
-  says 0 's VERIFIED SAT' model_check made/models.cnf made/models.answer
-  says 0 '' sessions write two.icnf two.lidrup made
-  says 0 's VERIFIED UNSAT' lrat_check made/session.cnf made/session.lrat
+  checks 0 '' sessions write two.icnf two.idrup made
+  holds made/session.cnf $'p cnf 7 10\n4 6 0\n-4 3 0\n-5 3 0\n-3 -1 -2 0\n-4 1 0\n-4 2 0\n-6 5 0\n-7 5 0\n-5 1 0\n-6 2 0'
+  holds made/session.drat $'-4 0\n-5 -2 0\n-6 0\n0'
+  holds made/models.cnf $'p cnf 5 2\n-2 -5 0\n2 0'
+  holds made/models.answer '2 -3 4 -5 0'
+  checks 0 's VERIFIED UNSAT' drat_check made/session.cnf made/session.drat
+  checks 0 's VERIFIED SAT' model_check made/models.cnf made/models.answer
+  checks 0 '' sessions write two.icnf two.lidrup made
+  checks 0 's VERIFIED UNSAT' lrat_check made/session.cnf made/session.lrat
 }
 
 # Answers that are wrong, by the interaction or by the proof: each alone, the others are shown.
 case_wrong_answers() {
   edit two.icnf 's/^f 1 2 0/f 1 0/'
-  says 1 $'query 2 of line 7: its core is more than what was told in line 9 (proof: line 8)\n1 of 4 answers are not shown' \
+  checks 1 $'query 2 of line 7: its core is more than what was told in line 9 (proof: line 8)\n1 of 4 answers are not shown' \
     sessions check changed.icnf two.idrup
   edit two.icnf 's/^f 1 2 0/f 1 2 3 0/'
-  says 1 $'query 2 of line 7: not all that was told in line 9 was assumed (proof: line 8)\n1 of 4 answers are not shown' \
+  checks 1 $'query 2 of line 7: not all that was told in line 9 was assumed (proof: line 8)\n1 of 4 answers are not shown' \
     sessions check changed.icnf two.idrup
   for values in 2 '-2 3 -3'; do
     edit two.icnf "s/^v -2 0/v $values 0/"
-    says 1 $'query 1 of line 4: its model does not have all that was told in line 6 (proof: line 5)\n1 of 4 answers are not shown' \
+    checks 1 $'query 1 of line 4: its model does not have all that was told in line 6 (proof: line 5)\n1 of 4 answers are not shown' \
       sessions check changed.icnf two.idrup
   done
   # (a variable that the solver does not know has the value that was told)
   edit two.icnf 's/^v -2 0/v -2 -3 0/'
-  says 0 "$all" sessions check changed.icnf two.idrup
+  checks 0 "$all" sessions check changed.icnf two.idrup
   edit two.icnf 's/^v -2 0/v 2 0/'
   edit two.idrup 's/^m 1 -2 0/m 1 2 0/'
-  says 1 $'query 1 of line 4: its model does not satisfy line 3\n1 of 4 answers are not shown' \
+  checks 1 $'query 1 of line 4: its model does not satisfy line 3\n1 of 4 answers are not shown' \
     sessions check changed.icnf changed.idrup
   edit two.idrup 's/^m 1 -2 0/m 1 -1 -2 0/'
-  says 1 $'query 1 of line 4: its model has both signs of a variable (proof: line 5)\n1 of 4 answers are not shown' \
+  checks 1 $'query 1 of line 4: its model has both signs of a variable (proof: line 5)\n1 of 4 answers are not shown' \
     sessions check two.icnf changed.idrup
   edit two.idrup 's/^m 1 -2 0/m -2 0/'
   edit two.icnf 's/^v -2 0//'
-  says 1 $'query 1 of line 4: its model does not satisfy line 4\n1 of 4 answers are not shown' sessions check two.icnf changed.idrup
+  checks 1 $'query 1 of line 4: its model does not satisfy line 4\n1 of 4 answers are not shown' sessions check two.icnf changed.idrup
   sed 's/^i -1 -2 0/i -1 -2 3 0/' two.icnf > changed.icnf
   sed 's/^i -2 -1 0/i -2 -1 3 0/' two.idrup > changed.idrup
   refused='drat_check: proof: step 1: clause neither follows nor is redundant by its first literal'
-  says 1 "query 2 of line 7: its core is not shown: $refused
+  checks 1 "query 2 of line 7: its core is not shown: $refused
 query 4 of line 13: its core is not shown: $refused
 2 of 4 answers are not shown" sessions check changed.icnf changed.idrup
   in_binary 9
@@ -210,43 +192,43 @@ query 4 of line 13: its core is not shown: $refused
 case_differences() {
   edit two.idrup 's/^i 1 0/i 1 2 0/'
   differs='no answer to it: proof: line 9: it is not the clause of line 10 of the interaction'
-  says 1 "query 3 of line 11: $differs"$'\n'"query 4 of line 13: $differs"$'\n''2 of 4 answers are not shown' \
+  checks 1 "query 3 of line 11: $differs"$'\n'"query 4 of line 13: $differs"$'\n''2 of 4 answers are not shown' \
     sessions check two.icnf changed.idrup
   head -n 13 two.idrup > changed.idrup
-  says 1 $'query 4 of line 13: no answer to it: the proof ends before that\n1 of 4 answers are not shown' \
+  checks 1 $'query 4 of line 13: no answer to it: the proof ends before that\n1 of 4 answers are not shown' \
     sessions check two.icnf changed.idrup
   head -n 15 two.idrup > changed.idrup
-  says 1 'after the last answer: the proof ends before that' sessions check two.icnf changed.idrup
+  checks 1 'after the last answer: the proof ends before that' sessions check two.icnf changed.idrup
   head -c -2 two.icnf > changed.icnf
-  says 1 'interaction: line 15: cut off, it has no line end' sessions check changed.icnf two.idrup
+  checks 1 'interaction: line 15: cut off, it has no line end' sessions check changed.icnf two.idrup
   edit two.icnf 's/^s UNKNOWN//'
-  says 1 'interaction: line 13: the query of line 11 has no answer' sessions check changed.icnf two.idrup
+  checks 1 'interaction: line 13: the query of line 11 has no answer' sessions check changed.icnf two.idrup
   edit two.icnf 's/^q 0/q 0 1/'
-  says 1 'interaction: line 11: malformed' sessions check changed.icnf two.idrup
+  checks 1 'interaction: line 11: malformed' sessions check changed.icnf two.idrup
   edit two.icnf 's/^v -2 0/f -2 0/'
-  says 1 'interaction: line 6: not expected here' sessions check changed.icnf two.idrup
+  checks 1 'interaction: line 6: not expected here' sessions check changed.icnf two.idrup
   : > empty
-  says 1 'interaction: line 1: no header' sessions check empty two.idrup
-  says 1 'proof: line 1: the header is neither p idrup nor p lidrup' sessions check two.icnf two.icnf
+  checks 1 'interaction: line 1: no header' sessions check empty two.idrup
+  checks 1 'proof: line 1: the header is neither p idrup nor p lidrup' sessions check two.icnf two.icnf
   in_binary 8
 }
 
 # An answer that gets no conclusion is not shown, and the reading goes on.
 case_no_conclusion() {
   edit two.idrup '/^m /d'
-  says 1 $'query 1 of line 4: the proof has no conclusion of it (proof: line 5)\n1 of 4 answers are not shown' \
+  checks 1 $'query 1 of line 4: the proof has no conclusion of it (proof: line 5)\n1 of 4 answers are not shown' \
     sessions check two.icnf changed.idrup
   edit two.idrup '0,/^u /{/^u /d}'
-  says 1 $'query 2 of line 7: the proof has no conclusion of it (proof: line 8)\n1 of 4 answers are not shown' \
+  checks 1 $'query 2 of line 7: the proof has no conclusion of it (proof: line 8)\n1 of 4 answers are not shown' \
     sessions check two.icnf changed.idrup
   edit two.lidrup '/^m /d; /^u /d'
-  says 1 $'query 1 of line 4: the proof has no conclusion of it (proof: line 5)
+  checks 1 $'query 1 of line 4: the proof has no conclusion of it (proof: line 5)
 query 2 of line 7: the proof has no conclusion of it (proof: line 7)
 query 4 of line 13: the proof has no conclusion of it (proof: line 13)\n3 of 4 answers are not shown' \
     sessions check two.icnf changed.lidrup
   edit two.idrup '0,/^s /{/^s /d}'
   unexpected='no answer to it: proof: line 4: not expected here'
-  says 1 "query 1 of line 4: $unexpected
+  checks 1 "query 1 of line 4: $unexpected
 query 2 of line 7: $unexpected
 query 3 of line 11: $unexpected
 query 4 of line 13: $unexpected
@@ -257,12 +239,12 @@ query 4 of line 13: $unexpected
 # A trail after an unknown answer says nothing, even a wrong one; it comes nowhere else.
 case_trails() {
   edit two.idrup 's/^s UNKNOWN/&\ne 1 -2 0/'
-  says 0 "$all" sessions check two.icnf changed.idrup
+  checks 0 "$all" sessions check two.icnf changed.idrup
   edit two.lidrup 's/^s UNKNOWN/&\ne -1 2 -2 0/'
-  says 0 "$all" sessions check two.icnf changed.lidrup
+  checks 0 "$all" sessions check two.icnf changed.lidrup
   edit two.idrup 's/^i 1 0/&\ne 1 0/'
   unexpected='no answer to it: proof: line 10: not expected here'
-  says 1 "query 3 of line 11: $unexpected
+  checks 1 "query 3 of line 11: $unexpected
 query 4 of line 13: $unexpected
 2 of 4 answers are not shown" sessions check two.icnf changed.idrup
   in_binary 3
@@ -272,28 +254,28 @@ query 4 of line 13: $unexpected
 # query alone. With none there is no answer, and neither where fewer come than were announced.
 case_conclusions() {
   edit two.idrup 's/^u 2 1 0/U 3\nu 1 2 3 0\nu 2 1 0\nu 1 -3 0/'
-  says 0 "$all" sessions check two.icnf changed.idrup
+  checks 0 "$all" sessions check two.icnf changed.idrup
   edit two.lidrup 's/^u 2 1 0.*/U 2\nu 1 2 3 0 1 0\nu 2 1 0 1 0/'
-  says 0 "$all" sessions check two.icnf changed.lidrup
+  checks 0 "$all" sessions check two.icnf changed.lidrup
   edit two.idrup 's/^u 2 1 0/U 2\nu 1 3 0\nu 2 -3 0/'
-  says 1 $'query 2 of line 7: its core is more than what was told in line 9 (proof: line 10)\n1 of 4 answers are not shown' \
+  checks 1 $'query 2 of line 7: its core is more than what was told in line 9 (proof: line 10)\n1 of 4 answers are not shown' \
     sessions check two.icnf changed.idrup
   edit two.idrup 's/^u 2 1 0/U 2\nu 1 3 0/'
-  says 1 $'query 2 of line 7: its core is more than what was told in line 9 (proof: line 10)\n1 of 4 answers are not shown' \
+  checks 1 $'query 2 of line 7: its core is more than what was told in line 9 (proof: line 10)\n1 of 4 answers are not shown' \
     sessions check two.icnf changed.idrup
   edit two.idrup 's/^u 2 1 0/U 2\nu 2 1 0/'
-  says 0 "$all" sessions check two.icnf changed.idrup
+  checks 0 "$all" sessions check two.icnf changed.idrup
   edit two.idrup 's/^u 2 1 0/U 2/'
-  says 1 $'query 2 of line 7: the proof has no conclusion of it (proof: line 9)\n1 of 4 answers are not shown' \
+  checks 1 $'query 2 of line 7: the proof has no conclusion of it (proof: line 9)\n1 of 4 answers are not shown' \
     sessions check two.icnf changed.idrup
   # The first core counts, so a wrong one is not made good by a right one after it.
   printf 'p icnf\ni -1 -2 0\nq 1 2 3 0\ns UNSATISFIABLE\n' > core.icnf
   printf 'p idrup\ni -1 -2 0\nq 1 2 3 0\ns UNSATISFIABLE\nU 2\nu 1 3 0\nu 1 2 0\n' > core.idrup
-  says 0 'all answers are shown: 0 satisfiable, 1 unsatisfiable, 0 unknown' sessions check core.icnf core.idrup
+  checks 0 'all answers are shown: 0 satisfiable, 1 unsatisfiable, 0 unknown' sessions check core.icnf core.idrup
   for line in 'U 2' 'u 1 2 0' 'e 0'; do
     edit two.idrup "s/^m 1 -2 0/$line/"
     unexpected='no answer to it: proof: line 5: not expected here'
-    says 1 "query 1 of line 4: $unexpected
+    checks 1 "query 1 of line 4: $unexpected
 query 2 of line 7: $unexpected
 query 3 of line 11: $unexpected
 query 4 of line 13: $unexpected
@@ -305,7 +287,7 @@ query 4 of line 13: $unexpected
 # An application that was told two cores of one query: which one is meant is not known, and the other queries are shown.
 case_two_cores() {
   edit two.icnf 's/^f 1 2 0/f 1 0\nf 2 0/'
-  says 1 $'query 2 of line 7: another core was told in line 10 (proof: line 8)\n1 of 4 answers are not shown' \
+  checks 1 $'query 2 of line 7: another core was told in line 10 (proof: line 8)\n1 of 4 answers are not shown' \
     sessions check changed.icnf two.idrup
   in_binary 1
 }
@@ -315,19 +297,19 @@ case_binary() {
   printf 'p icnf\ni 64 -300 0\ni 300 0\nq -64 0\ns UNSATISFIABLE\ni -64 0\n' > long.icnf
   many='all answers are shown: 0 satisfiable, 1 unsatisfiable, 0 unknown'
   printf 'p idrup\ni\x80\x01\xd9\x04\0i\xd8\x04\0q\x81\x01\0sUNSATISFIABLEu\x81\x01\0i\x81\x01\0' > long.idrup
-  says 0 "$many" sessions check long.icnf long.idrup
+  checks 0 "$many" sessions check long.icnf long.idrup
   printf 'p idrup\ni\x80\x01\xd9\x04\0i\xd8\x04\0q\x81\x01\0s UNSATISFIABLE\nu\x81\x01\0i\x81\x01\0' > long.idrup
-  says 0 "$many" sessions check long.icnf long.idrup
+  checks 0 "$many" sessions check long.icnf long.idrup
   printf 'p lidrup\ni\x80\x01\x80\x01\xd9\x04\0i\x05\xd8\x04\0q\x81\x01\0sUNSATISFIABLEu\x81\x01\0\x05\x80\x01\0i\x06\x81\x01\0' > long.lidrup
-  says 0 "$many" sessions check long.icnf long.lidrup
+  checks 0 "$many" sessions check long.icnf long.lidrup
   for kind in idrup lidrup; do
     sed -i 1d "long.$kind"
-    says 0 "$many" sessions check long.icnf "long.$kind"
+    checks 0 "$many" sessions check long.icnf "long.$kind"
   done
   # malformed LINE BYTES: the proof ends with these in place of its conclusion, and they are malformed
   malformed() {
     printf 'p idrup\ni\x80\x01\xd9\x04\0i\xd8\x04\0q\x81\x01\0sUNSATISFIABLE%b' "$1" > long.idrup
-    says 1 $'query 1 of line 4: no answer to it: proof: line 6: malformed\n1 of 1 answers are not shown' sessions check long.icnf long.idrup
+    checks 1 $'query 1 of line 4: no answer to it: proof: line 6: malformed\n1 of 1 answers are not shown' sessions check long.icnf long.idrup
   }
   malformed 'u\x81\x01'
   malformed 'u\x81\x01\x81\0'
@@ -339,7 +321,7 @@ case_binary() {
   # nine bytes may be a number, ten may not
   nine='\xff\xff\xff\xff\xff\xff\xff\xff\x7f'
   printf 'p idrup\ni\x80\x01\xd9\x04\0i\xd8\x04\0q\x81\x01\0sUNSATISFIABLEU%bu\x81\x01\0i\x81\x01\0' "$nine" > long.idrup
-  says 0 "$many" sessions check long.icnf long.idrup
+  checks 0 "$many" sessions check long.icnf long.idrup
   malformed "U\x80${nine}u\x81\x01\0"
   malformed "u\x80$nine\0"
   malformed "u$(printf '\\x81%.0s' {1..3000})\x01\0"
@@ -352,7 +334,7 @@ case_endless_number() {
     head -c 2000000 /dev/zero | tr '\0' '\201' >> endless.idrup
     printf '\1\0' >> endless.idrup
     printf 'p icnf\ni 64 -300 0\ni 300 0\nq -64 0\ns UNSATISFIABLE\n' > long.icnf
-    ends 1 $'query 1 of line 4: no answer to it: proof: line 6: malformed\n1 of 1 answers are not shown' \
+    says 1 $'query 1 of line 4: no answer to it: proof: line 6: malformed\n1 of 1 answers are not shown' \
       timeout 20 sessions check long.icnf endless.idrup
   done
 }
@@ -363,7 +345,7 @@ case_long_numbers() {
     long=$(head -c "$length" /dev/zero | tr '\0' 1)
     for line in 3 4 6 9; do
       sed "${line}s/ 0\$/ $long 0/" two.icnf > changed.icnf
-      ends 1 "interaction: line $line: malformed" sessions check changed.icnf two.idrup
+      says 1 "interaction: line $line: malformed" sessions check changed.icnf two.idrup
     done
     for line in 2 3 5 8; do
       sed "${line}s/ 0\$/ -$long 0/" two.idrup > changed.idrup
@@ -372,7 +354,7 @@ case_long_numbers() {
       fi
     done
     sed "12s/ 0\$/ -$long 0/" two.idrup > changed.idrup
-    ends 1 'proof: a word of a lemma that is no number' sessions check two.icnf changed.idrup
+    says 1 'proof: a word of a lemma that is no number' sessions check two.icnf changed.idrup
     for edit in "8s/^/U $long\n/" "9s/i 4/i $long/" "12s/ 1 0\$/ 1 $long 0/"; do
       sed "$edit" two.lidrup > changed.lidrup
       if sessions check two.icnf changed.lidrup > said 2> err || [[ $? != 1 || -s err || $(head -n 1 said) != *': no answer to it: proof: line '*': malformed' ]]; then
@@ -386,29 +368,29 @@ case_long_numbers() {
 case_no_query() {
   printf 'p icnf\ni 1 0\n' > none.icnf
   printf 'p idrup\ni 1 0\n' > none.idrup
-  ends 3 'no answer was seen' sessions check none.icnf none.idrup
+  says 3 'no answer was seen' sessions check none.icnf none.idrup
   printf 'p idrup\n' > short.idrup
-  ends 1 'after the last answer: the proof ends before that' sessions check none.icnf short.idrup
+  says 1 'after the last answer: the proof ends before that' sessions check none.icnf short.idrup
   mkdir recorded
   cp none.* recorded
   echo none > recorded/sessions.index
-  ends 3 'no answer was seen' sessions check recorded
+  says 3 'no answer was seen' sessions check recorded
   # a program that leaves this record, with a layer that sees nothing
   as_installed verified sessions
   cp -L bin/*_check alone/bin
   cc -shared -o alone/lib/libcefindrato_ipasir.so -x c /dev/null
   printf '#!/bin/sh\ncp recorded/* "${SESSION_RECORD%%/*}"\n' > program
   chmod +x program
-  ends 3 'cefindrato: no answer was seen' alone/bin/verified --run ./program
+  says 3 'cefindrato: no answer was seen' alone/bin/verified --run ./program
   # one of two sessions has answers
   cp two.icnf recorded/two.icnf
   cp two.idrup recorded/two.idrup
   echo two >> recorded/sessions.index
-  ends 0 "$all, in 2 sessions" sessions check recorded
-  ends 0 'cefindrato: 4 answers, all shown: 1 satisfiable, 2 unsatisfiable, 1 unknown' alone/bin/verified --run ./program
+  says 0 "$all, in 2 sessions" sessions check recorded
+  says 0 'cefindrato: 4 answers, all shown: 1 satisfiable, 2 unsatisfiable, 1 unknown' alone/bin/verified --run ./program
   edit two.icnf 's/^v -2 0/v 2 0/'
   cp changed.icnf recorded/two.icnf
-  ends 1 'cefindrato: two.icnf: query 1 of line 4: its model does not have all that was told in line 6 (proof: line 5)
+  says 1 'cefindrato: two.icnf: query 1 of line 4: its model does not have all that was told in line 6 (proof: line 5)
 cefindrato: two.icnf: 1 of 4 answers are not shown
 cefindrato: 1 of 2 sessions have answers that are not shown
 cefindrato: not all answers are shown' alone/bin/verified --run ./program
@@ -419,25 +401,25 @@ case_deletions() {
   printf 'p icnf\ni 1 2 3 0\ni 1 2 -3 0\ni 1 -2 3 0\ni 1 -2 -3 0\nq -1 0\ns UNSATISFIABLE\ni 4 0\nq -4 0\ns UNSATISFIABLE\n' > gone.icnf
   sed 's/icnf/idrup/; s/^q -1 0/&\nl 1 2 0\nd 2 1 0/' gone.icnf > gone.idrup
   sed -i '0,/^s .*/s//&\nu -1 0/; $s/$/\nu -4 0/' gone.idrup
-  says 0 'all answers are shown: 0 satisfiable, 2 unsatisfiable, 0 unknown' sessions check gone.icnf gone.idrup
+  checks 0 'all answers are shown: 0 satisfiable, 2 unsatisfiable, 0 unknown' sessions check gone.icnf gone.idrup
   sessions write gone.icnf gone.idrup made
-  says 1 $'proof: step 3: clause neither follows nor is redundant by its first literal\nin made/session.drat' \
+  checks 1 $'proof: step 3: clause neither follows nor is redundant by its first literal\nin made/session.drat' \
     drat_check made/session.cnf made/session.drat
   sessions write --no-deletions gone.icnf gone.idrup made
-  says 0 's VERIFIED UNSAT' drat_check made/session.cnf made/session.drat
+  checks 0 's VERIFIED UNSAT' drat_check made/session.cnf made/session.drat
   in_binary 1
 }
 
 # A checker that answers nothing shows nothing, and one that can't be run is no answer at all.
 case_checkers() {
-  DRAT_CHECK=true says 1 $'query 2 of line 7: its core is not shown: drat_check: ended with status 0
+  DRAT_CHECK=true checks 1 $'query 2 of line 7: its core is not shown: drat_check: ended with status 0
 query 4 of line 13: its core is not shown: drat_check: ended with status 0\n2 of 4 answers are not shown' \
     sessions check two.icnf two.idrup
-  DRAT_CHECK=./none says 2 'cannot run ./none: No such file or directory' sessions check two.icnf two.idrup
+  DRAT_CHECK=./none checks 2 'cannot run ./none: No such file or directory' sessions check two.icnf two.idrup
   printf '#!/bin/sh\necho "no such option" >&2\nexit 2\n' > bin/unasked
   chmod +x bin/unasked
-  DRAT_CHECK=unasked says 2 'unasked cannot be asked: no such option' sessions check two.icnf two.idrup
-  MODEL_CHECK=unasked says 2 'unasked cannot be asked: no such option' sessions check two.icnf two.idrup
+  DRAT_CHECK=unasked checks 2 'unasked cannot be asked: no such option' sessions check two.icnf two.idrup
+  MODEL_CHECK=unasked checks 2 'unasked cannot be asked: no such option' sessions check two.icnf two.idrup
   # programs beside the script, ahead of those on PATH
   mkdir false
   as_installed sessions
@@ -446,15 +428,15 @@ query 4 of line 13: its core is not shown: drat_check: ended with status 0\n2 of
     printf '#!/bin/sh\nexit 1\n' > "false/$program"
     chmod +x "false/$program"
   done
-  PATH=$work/false:$PATH says 0 "$all" alone/bin/sessions check two.icnf two.idrup
-  says 2 'cannot open none.icnf: No such file or directory' sessions check none.icnf two.idrup
+  PATH=$work/false:$PATH checks 0 "$all" alone/bin/sessions check two.icnf two.idrup
+  checks 2 'cannot open none.icnf: No such file or directory' sessions check none.icnf two.idrup
   in_binary 5
 }
 
 # A wrong word of a call is named, in one line; and what each call of this kind says.
 case_words() {
   wrong_call() {
-    says 2 "$1 (sessions --help says how it is called)" sessions "${@:2}"
+    checks 2 "$1 (sessions --help says how it is called)" sessions "${@:2}"
   }
   wrong_call 'check takes INTERACTION and PROOF, or folders' check two.icnf
   wrong_call 'check takes INTERACTION and PROOF, or folders' check two.icnf two.idrup made
@@ -466,14 +448,14 @@ case_words() {
   wrong_call 'no call: check or write'
   version=$(sed -n 's/^const VERSION: &str = "\([^"]*\).*/\1/p' "$top/crates/command/src/status.rt")
   for flag in -V --version; do
-    says 0 "sessions $version" sessions "$flag"
+    checks 0 "sessions $version" sessions "$flag"
   done
   for flag in -h --help; do
-    says 0 "$(sed -n '2,/^"""$/p' "$top/tools/sessions" | sed 's/^"""//')" sessions "$flag"
+    checks 0 "$(sed -n '2,/^"""$/p' "$top/tools/sessions" | sed 's/^"""//')" sessions "$flag"
   done
 
   cp two.idrup ./--no-deletions
-  says 0 "$all" sessions check -- two.icnf --no-deletions
+  checks 0 "$all" sessions check -- two.icnf --no-deletions
 }
 
 # A folder of recorded sessions: its index names each, and all of each is there, or it is refused.
@@ -485,12 +467,12 @@ case_folder() {
   done
   cp two.idrup folder/one.idrup
   cp two.lidrup folder/two.lidrup
-  says 0 'all answers are shown: 2 satisfiable, 4 unsatisfiable, 2 unknown, in 2 sessions' sessions check folder
-  says 0 'all answers are shown: 4 satisfiable, 8 unsatisfiable, 4 unknown, in 4 sessions' sessions check folder --no-deletions folder/
-  says 2 'cannot open made/sessions.index: No such file or directory' sessions check folder made
+  checks 0 'all answers are shown: 2 satisfiable, 4 unsatisfiable, 2 unknown, in 2 sessions' sessions check folder
+  checks 0 'all answers are shown: 4 satisfiable, 8 unsatisfiable, 4 unknown, in 4 sessions' sessions check folder --no-deletions folder/
+  checks 2 'cannot open made/sessions.index: No such file or directory' sessions check folder made
   sed -i 's/^v -2 0/v 2 0/' folder/one.icnf
   sed -i 's/^p lidrup/p frat/' folder/two.lidrup
-  says 1 'folder/one.icnf: query 1 of line 4: its model does not have all that was told in line 6 (proof: line 5)
+  checks 1 'folder/one.icnf: query 1 of line 4: its model does not have all that was told in line 6 (proof: line 5)
 folder/one.icnf: 1 of 4 answers are not shown
 folder/two.icnf: proof: line 1: the header is neither p idrup nor p lidrup
 2 of 2 sessions have answers that are not shown' sessions check folder
@@ -500,7 +482,7 @@ folder/two.icnf: proof: line 1: the header is neither p idrup nor p lidrup
     rm -rf copy
     cp -R folder copy
     (cd copy && eval "$2")
-    says 1 "copy: $1" sessions check copy
+    checks 1 "copy: $1" sessions check copy
     if [[ $(sessions check copy 2> err) ]]; then
       echo "$2: something is said on standard output"
       wrong=1
@@ -524,7 +506,7 @@ folder/two.icnf: proof: line 1: the header is neither p idrup nor p lidrup
     cp two.idrup "folder/$name.idrup"
     echo "$name" >> folder/sessions.index
   done
-  says 0 'all answers are shown: 4 satisfiable, 8 unsatisfiable, 4 unknown, in 4 sessions' sessions check folder
+  checks 0 'all answers are shown: 4 satisfiable, 8 unsatisfiable, 4 unknown, in 4 sessions' sessions check folder
   refused $'four.icnf is not there\ncopy: four.idrup is not there\ncopy: three.icnf is not there\ncopy: three.idrup is not there
 copy: two.icnf is not there\ncopy: two.idrup is not there' 'rm two.* three.* four.*'
 }
@@ -551,18 +533,18 @@ case_packed() {
       head -c -5 "$file.$end" > "cut.$file.$end"
     done
     for kind in idrup lidrup binary; do
-      ends 0 "$all" sessions check "two.icnf.$end" "two.$kind.$end"
-      ends 0 "$all" sessions check two.icnf "two.$kind.$end"
+      says 0 "$all" sessions check "two.icnf.$end" "two.$kind.$end"
+      says 0 "$all" sessions check two.icnf "two.$kind.$end"
       if sessions check two.icnf "cut.two.$kind.$end" > said 2> err || [[ $? != 1 || -s said || $(wc -l < err) != 1 || $(cat err) != "cannot unpack cut.two.$kind.$end: "* ]]; then
         echo "$end, a proof that is cut off: $(cat said err)"
         wrong=1
       fi
     done
-    ends 1 $'query 1 of line 4: its model does not have all that was told in line 6 (proof: line 5)\n1 of 4 answers are not shown' \
+    says 1 $'query 1 of line 4: its model does not have all that was told in line 6 (proof: line 5)\n1 of 4 answers are not shown' \
       sessions check "two.icnf.$end" "changed.idrup.$end"
     rm -rf made
-    ends 0 '' sessions write "two.icnf.$end" "two.idrup.$end" made
-    same made/session.drat $'-4 0\n-5 -2 0\n-6 0\n0'
+    says 0 '' sessions write "two.icnf.$end" "two.idrup.$end" made
+    holds made/session.drat $'-4 0\n-5 -2 0\n-6 0\n0'
     for words in "sessions check cut.two.icnf.$end two.idrup" "sessions write cut.two.icnf.$end two.idrup none"; do
       # shellcheck disable=SC2086
       if $words > said 2> err || [[ $? != 1 || -s said || -e none || $(cat err) != "cannot unpack cut.two.icnf.$end: "* ]]; then
@@ -573,19 +555,19 @@ case_packed() {
     # (a packer is needed of zstd alone)
     without=(env PATH="$work/bin:$work/lean" sessions check "two.icnf.$end" two.idrup)
     if [[ $tool == zstd ]]; then
-      ends 2 "cannot run $tool, which unpacks two.icnf.$end" "${without[@]}"
+      says 2 "cannot run $tool, which unpacks two.icnf.$end" "${without[@]}"
     else
-      ends 0 "$all" "${without[@]}"
+      says 0 "$all" "${without[@]}"
     fi
-    ends 2 "cannot open none.$end: No such file or directory" sessions check "none.$end" two.idrup
+    says 2 "cannot open none.$end: No such file or directory" sessions check "none.$end" two.idrup
     rm -rf packed
     cp -R folder packed
     mv "two.icnf.$end" packed/one.icnf."$end"
     mv "two.lidrup.$end" packed/two.lidrup."$end"
     rm packed/one.icnf packed/two.lidrup
-    ends 0 'all answers are shown: 4 satisfiable, 8 unsatisfiable, 4 unknown, in 4 sessions' sessions check packed
+    says 0 'all answers are shown: 4 satisfiable, 8 unsatisfiable, 4 unknown, in 4 sessions' sessions check packed
     cp two.icnf packed/one.icnf
-    ends 1 "packed: one.icnf.$end is of no session that sessions.index names" sessions check packed
+    says 1 "packed: one.icnf.$end is of no session that sessions.index names" sessions check packed
     rm packed/one.icnf
     cp "cut.two.icnf.$end" "packed/one.icnf.$end"
     if sessions check packed > said 2>&1 || [[ $(head -n 1 said) != "packed/one.icnf.$end: cannot unpack packed/one.icnf.$end: "* || $(tail -n 1 said) != '1 of 4 sessions have'* ]]; then

@@ -355,6 +355,40 @@ case_missing() {
   done
 }
 
+# What tests/lib.sh has to compare with: each passes where it should, and is a fault where anything differs.
+case_comparisons() {
+  speak() {
+    printf '%s' "$2"
+    printf '%s' "$3" >&2
+    return "$1"
+  }
+  printf 'a\nb\n' > two
+  # compared RIGHT COMMAND..
+  compared() {
+    local found=0
+    (wrong=0 && "${@:2}" > "$work/said" && exit "$wrong") || found=$?
+    same "${*:2}" "$1" "$found"
+  }
+  compared 0 expect 0 '' -- true
+  compared 0 expect 3 $'a\nb' -- speak 3 $'a\nb\n' err
+  compared 0 expect 3 a err -- speak 3 a $'err\n'
+  compared 0 expect 0 '' '' -- speak 0 '' ''
+  compared 1 expect 0 a -- speak 3 a ''
+  compared 1 expect 3 b -- speak 3 a ''
+  compared 1 expect 3 a error -- speak 3 a err
+  compared 1 expect 3 a '' -- speak 3 a err
+  compared 0 says 1 ab speak 1 a b
+  compared 1 says 1 a speak 1 a b
+  compared 1 says 0 ab speak 1 a b
+  compared 0 faults one speak 2 '' $'this one\n'
+  for call in "2 a this_one" "2 '' this" "1 '' this_one" "2 '' ''"; do
+    eval "compared 1 faults one speak $call"
+  done
+  compared 1 faults one speak 2 '' $'this one\nmore\n'
+  compared 0 holds two $'a\nb'
+  compared 1 holds two a
+}
+
 # What a script calls that not each machine has stands behind a question for it.
 case_guards() {
   # (indented, since these are no cases of this script)

@@ -19,16 +19,6 @@ ln -s "$top"/tools/{checked,verified} "$work/bin"
 export PATH=$work/bin:$PATH
 cd "$work"
 
-# ends STATUS OUTPUT COMMAND..: it must end so, and write this to standard output
-ends() {
-  local status=0 said
-  said=$("${@:3}" 2> err) || status=$?
-  if [[ $status != "$1" || $said != "$2" ]]; then
-    printf '%s: status %d, it wrote: %s %s\n' "${*:3}" "$status" "$said" "$(cat err)"
-    wrong=1
-  fi
-}
-
 unsat='s VERIFIED UNSAT'
 sat='s VERIFIED SAT'
 printf 'p cnf 2 4\n1 2 0\n1 -2 0\n-1 2 0\n-1 -2 0\n' > four.cnf
@@ -98,10 +88,10 @@ END
     printf 'all: formula.cnf\n\t@%s\n\t@echo on\n' "$line" > recipes/Makefile
     for shell in 'bash -e' 'bash --noprofile --norc -eo pipefail' 'sh -e'; do
       # shellcheck disable=SC2086
-      ends "$3" "$4" env -C recipes $shell script
+      expect "$3" "$4" -- env -C recipes $shell script
     done
     if has make; then
-      ends "$(($3 * 2))" "$4" env -C recipes make -s
+      expect "$(($3 * 2))" "$4" -- env -C recipes make -s
     fi
   }
   while read -r line; do
@@ -116,17 +106,17 @@ END
 case_solvers() {
   for solver in cadical picosat cryptominisat5 kissat glucose; do
     if has "$solver"; then
-      ends 20 "$unsat" checked "$solver" pigeons.cnf
-      ends 10 "$sat" checked "$solver" loose.cnf
-      ends 10 "$sat" checked "$solver" satlib.cnf
+      expect 20 "$unsat" -- checked "$solver" pigeons.cnf
+      expect 10 "$sat" -- checked "$solver" loose.cnf
+      expect 10 "$sat" -- checked "$solver" satlib.cnf
     fi
   done
   # what they write no proof of, or none that is always right
   for solver in minisat clasp z3 lingeling; do
     if has "$solver"; then
-      ends 10 "$sat" checked "$solver" loose.cnf
-      ends 10 "$sat" checked "$solver" satlib.cnf
-      ends 1 '' checked "$solver" pigeons.cnf
+      expect 10 "$sat" -- checked "$solver" loose.cnf
+      expect 10 "$sat" -- checked "$solver" satlib.cnf
+      expect 1 '' -- checked "$solver" pigeons.cnf
     fi
   done
 }
