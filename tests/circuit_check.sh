@@ -82,8 +82,8 @@ case_answers() {
   done
   ends 2 '--init-proof, --step-proof and --bad-proof, or --init-formula, --step-formula and --bad-formula' \
     "$check" safe one.aig two.aig --answer answer
-  ends 1 'a circuit with latches, bad outputs or constraints' "$check" never latch.aig --answer answer
-  ends 1 'a circuit with latches, bad outputs or constraints' "$check" same one.aig latch.aig --answer answer
+  ends 1 'a circuit with latches, bad state properties or invariant constraints' "$check" never latch.aig --answer answer
+  ends 1 'a circuit with latches, bad state properties or invariant constraints' "$check" same one.aig latch.aig --answer answer
   for option in '--answer answer' '--formula formula' '--proof proof'; do
     # shellcheck disable=SC2086 # several words
     {

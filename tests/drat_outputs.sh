@@ -311,7 +311,7 @@ case_no_verdict() {
   keep l c
   wants 1 '' $'proof: step 1: malformed\nin malformed' f malformed --lrat l --core c
   kept malformed l c
-  wants 1 '' $'proof: step 2: clause neither follows nor is redundant by its first literal\nin unfounded' \
+  wants 1 '' $'proof: step 2: clause is neither RUP nor RAT on its first literal\nin unfounded' \
     f unfounded --core c --lrat l
   kept unfounded l c
   wants 1 '' $'formula: line 1: bad number\nin malformed\nbad number: x' malformed p --lrat l --core c
@@ -380,8 +380,8 @@ case_piece() {
   wants 0 's VERIFIED PIECE' '' three piece --holds next --lrat l --binary
   said=$("$lrat_check" three l 2> err) || true
   [[ $said == 's NOT VERIFIED' ]] || fault "the binary lines of a piece: $said $(cat err)"
-  wants 3 's NOT VERIFIED' $'clause 2 is not there behind the piece: 1 2 0\nin gone' three piece --holds gone
-  wants 3 's NOT VERIFIED' $'clause 2 is not there behind the piece: -1 -3 0\nin turned' three piece --holds turned --lrat l
+  wants 3 's NOT VERIFIED' $'clause 2 is not derived by the piece: 1 2 0\nin gone' three piece --holds gone
+  wants 3 's NOT VERIFIED' $'clause 2 is not derived by the piece: -1 -3 0\nin turned' three piece --holds turned --lrat l
   empty l
   wants 0 's VERIFIED UNSAT' '' f p --holds next --lrat l
   [[ $("$lrat_check" f l) == 's VERIFIED UNSAT' ]] || fault 'the lines of a piece with a conflict'
@@ -422,9 +422,9 @@ case_piece_ids() {
     # shellcheck disable=SC2086
     wants 0 's VERIFIED PIECE' '' $arguments --core c
   done
-  wants 3 's NOT VERIFIED' $'clause 1 is not there behind the piece: 1 3 0\nin third' one gone.frat --holds third
-  wants 3 's NOT VERIFIED' $'clause 1 is not there behind the piece: 1 3 0\nin third' one gone.lpr --lpr --holds third
-  wants 3 's NOT VERIFIED' $'clause 1 is not there behind the piece: 1 2 0\nin one' one deleted.lpr --lpr --holds one
+  wants 3 's NOT VERIFIED' $'clause 1 is not derived by the piece: 1 3 0\nin third' one gone.frat --holds third
+  wants 3 's NOT VERIFIED' $'clause 1 is not derived by the piece: 1 3 0\nin third' one gone.lpr --lpr --holds third
+  wants 3 's NOT VERIFIED' $'clause 1 is not derived by the piece: 1 2 0\nin one' one deleted.lpr --lpr --holds one
   # a clause that is redundant without a group counts among those that are
   printf '3 -1 0\n' > new
   said=$("$check" one new --holds new --stats 2> err) || true
@@ -442,7 +442,7 @@ case_piece_core() {
   [[ $(cat c) == $'p cnf 2 2\n1 2 0\n1 -2 0' ]] || fault "the core of a piece: $(cat c)"
   wants 0 's VERIFIED PIECE' '' c piece --holds less --core c2
   cmp c c2 || fault 'the core of a core'
-  wants 3 's NOT VERIFIED' $'clause 2 is not there behind the piece: 1 2 0\nin gone' three piece --holds gone --core c
+  wants 3 's NOT VERIFIED' $'clause 2 is not derived by the piece: 1 2 0\nin gone' three piece --holds gone --core c
   empty c
   wants 0 's VERIFIED UNSAT' '' f p --holds next --core c
   [[ $("$check" c p) == 's VERIFIED UNSAT' ]] || fault 'the core of a piece with a conflict'

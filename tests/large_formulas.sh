@@ -38,8 +38,8 @@ case_drat_check() {
   wants 0 's VERIFIED UNSAT' '' drat_check cnf drat --lrat made.lrat --core core
   wants 0 's VERIFIED UNSAT' '' lrat_check cnf made.lrat
   wants 0 's VERIFIED UNSAT' '' drat_check core drat
-  refused damaged.drat "proof: step $step: clause neither follows nor is redundant by its first literal" drat_check cnf damaged.drat
-  refused drat "proof: step $last: clause neither follows nor is redundant by its first literal" drat_check sat.cnf drat
+  refused damaged.drat "proof: step $step: clause is neither RUP nor RAT on its first literal" drat_check cnf damaged.drat
+  refused drat "proof: step $last: clause is neither RUP nor RAT on its first literal" drat_check sat.cnf drat
 }
 
 case_hints() {

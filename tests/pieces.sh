@@ -118,7 +118,7 @@ case_lrat() {
   # lacks N CLAUSE TEXT: of the clauses of this text, that one is not there
   lacks() {
     printf -- "$3" > lacking.cnf
-    says 3 $'s NOT VERIFIED\nclause '"$1 is not there behind the piece: $2"$'\nin lacking.cnf' lrat_check three.cnf by_hand.lrat --holds lacking.cnf
+    says 3 $'s NOT VERIFIED\nclause '"$1 is not derived by the piece: $2"$'\nin lacking.cnf' lrat_check three.cnf by_hand.lrat --holds lacking.cnf
   }
   lacks 1 '-1 0' '-1 0\n1 2 0\n'
   lacks 2 '1 2 0' '1 0\n1 2 0\n'

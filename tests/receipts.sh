@@ -121,7 +121,7 @@ kept() {
   holds "refuted sha256 $(sum four)"
   # what was there stays where there is no verdict
   echo old > receipt
-  wants 3 "$OPEN" $'clause 1 is not there behind the piece: -1 -2 0\nin missing' \
+  wants 3 "$OPEN" $'clause 1 is not derived by the piece: -1 -2 0\nin missing' \
     "$check" three "piece.$program" --holds missing --receipt receipt
   holds old
   wants 3 "$OPEN" '' "$check" three "piece.$program" --receipt receipt

@@ -181,7 +181,7 @@ case_wrong_answers() {
   checks 1 $'query 1 of line 4: its model does not satisfy line 4\n1 of 4 answers are not shown' sessions check two.icnf changed.idrup
   sed 's/^i -1 -2 0/i -1 -2 3 0/' two.icnf > changed.icnf
   sed 's/^i -2 -1 0/i -2 -1 3 0/' two.idrup > changed.idrup
-  refused='drat_check: proof: step 1: clause neither follows nor is redundant by its first literal'
+  refused='drat_check: proof: step 1: clause is neither RUP nor RAT on its first literal'
   checks 1 "query 2 of line 7: its core is not shown: $refused
 query 4 of line 13: its core is not shown: $refused
 2 of 4 answers are not shown" sessions check changed.icnf changed.idrup
@@ -403,7 +403,7 @@ case_deletions() {
   sed -i '0,/^s .*/s//&\nu -1 0/; $s/$/\nu -4 0/' gone.idrup
   checks 0 'all answers are shown: 0 satisfiable, 2 unsatisfiable, 0 unknown' sessions check gone.icnf gone.idrup
   sessions write gone.icnf gone.idrup made
-  checks 1 $'proof: step 3: clause neither follows nor is redundant by its first literal\nin made/session.drat' \
+  checks 1 $'proof: step 3: clause is neither RUP nor RAT on its first literal\nin made/session.drat' \
     drat_check made/session.cnf made/session.drat
   sessions write --no-deletions gone.icnf gone.idrup made
   checks 0 's VERIFIED UNSAT' drat_check made/session.cnf made/session.drat

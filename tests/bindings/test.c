@@ -84,7 +84,7 @@ static void expect_drat(void) {
         {cnf, "1 0\n0\n", 256, CEFINDRATO_NOT_RUN, ""},
         {three, "1 0\n", CEFINDRATO_TOLD, CEFINDRATO_NOT_VERIFIED, ""},
         {three, "-1 0\n0\n", CEFINDRATO_TOLD, CEFINDRATO_FAULT,
-         "proof: step 1: clause neither follows nor is redundant by its first literal"},
+         "proof: step 1: clause is neither RUP nor RAT on its first literal"},
         {"1 x", "", CEFINDRATO_TOLD, CEFINDRATO_FAULT, "formula: line 1: bad number"},
     };
     char text[100];

@@ -102,7 +102,7 @@ class Runs:
             self.expect(data, (status, err), (1, f"circuit: {fault}\n"))
             return
         if c.latches or c.bad or c.constraints:
-            self.expect(data, (status, err), (1, "a circuit with latches, bad outputs or constraints\n"))
+            self.expect(data, (status, err), (1, "a circuit with latches, bad state properties or invariant constraints\n"))
         else:
             self.formula(data, status, self.path("text.cnf"), formulas.never(c))
 

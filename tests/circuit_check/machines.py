@@ -126,7 +126,7 @@ def refuse(runs):
     """Shapes that are refused, and faults of each file."""
     machine = aiger.Circuit(1, latches=[(4, 2, 0)], outputs=[4])
     holds = aiger.Circuit(2, outputs=[1])
-    shape = "an invariant has one output, and no latches, bad outputs and constraints\n"
+    shape = "an invariant has one output, and no latches, bad states and constraints\n"
     cut = b"aig 1 1 0 1 0\n"
     rows = [
         (machine, aiger.Circuit(1, outputs=[1]), "the invariant's inputs are not as many as the machine's inputs and latches\n"),

@@ -22,7 +22,7 @@ from machines import Machine
 MODEL_CHECKER = shutil.which("berkeley-abc")
 
 REACHED = (0, "s VERIFIED REACHED\n", "")
-NOWHERE = (3, "s NOT VERIFIED\n", "no bad output is true at any step\n")
+NOWHERE = (3, "s NOT VERIFIED\n", "no bad state is reached\n")
 UNFINISHED = "the stimulus ends before its last line"
 
 

@@ -19,8 +19,8 @@ import sys
 STEP_FAULTS = [
     re.compile(rf"proof: step (\d+): {it}\n")
     for it in (
-        "clause neither follows nor is redundant by its first literal",
-        "clause neither follows nor is redundant by its witness",
+        "clause is neither RUP nor RAT on its first literal",
+        "clause is neither RUP nor PR by its witness",
         "witness contradicts itself",
     )
 ]

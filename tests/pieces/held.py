@@ -172,7 +172,7 @@ def try_case(programs, folder, seed, counts):
         return None
     counts[form, first is None] += 1
     if first is not None:
-        if (status, said) == (3, MISSING) and f"clause {first} is not there behind the piece:" in why:
+        if (status, said) == (3, MISSING) and f"clause {first} is not derived by the piece:" in why:
             return None
         return f"clause {first} is not there: status {status}: {said}{why}"
     if (status, said) != (0, HELD):

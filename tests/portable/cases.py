@@ -46,7 +46,7 @@ def main(data, folder, *names):
         "drat_check": [
             case("drat", [four, file("text.drat", b"1 0\n0\n")], VERIFIED, SHOWN),
             case("drat", [four, file("binary.drat", b"a\x02\x00a\x00")], VERIFIED, SHOWN),
-            case("drat", [four, file("wrong.drat", b"d 1 2 0\n1 0\n")], REFUSED, "proof: step 2: clause neither follows nor is redundant"),
+            case("drat", [four, file("wrong.drat", b"d 1 2 0\n1 0\n")], REFUSED, "proof: step 2: clause is neither RUP nor RAT"),
             case("drat", [], VERIFIED, SHOWN, click="example"),
         ],
         "lrat_check": [
@@ -72,9 +72,9 @@ def main(data, folder, *names):
         case("never", [false, file("never", b"0\n")], "s VERIFIED NEVER", "No input makes an output"),
         case("never", [file("false.aag", FALSE_TEXT.encode()), file("binary", b"a\0")], "s VERIFIED NEVER", "No input makes an output"),
         case("never", [gate, nothing], "s NOT VERIFIED", "shows nothing of the circuit"),
-        case("never", [gate, file("wrong", b"1 0\n0\n")], REFUSED, "proof: step 1: clause neither follows nor is redundant"),
+        case("never", [gate, file("wrong", b"1 0\n0\n")], REFUSED, "proof: step 1: clause is neither RUP nor RAT"),
         case("never", [file("cut.aig", GATE[:-1]), nothing], REFUSED, "circuit: gate of variable 3: the text ends too early"),
-        case("never", [file("latch.aig", LATCH), nothing], REFUSED, "a circuit with latches, bad outputs or constraints"),
+        case("never", [file("latch.aig", LATCH), nothing], REFUSED, "a circuit with latches, bad state properties or invariant constraints"),
         case("never", [equal, gate], "The files are the wrong way round", "gate.aig begins as a circuit does"),
         case("never", [file("gate.aig.gz", gzip.compress(GATE)), nothing], "gate.aig.gz is packed", "It begins as a file of gzip"),
         case("never", [gate], "Two files are needed", "Choose the circuit"),

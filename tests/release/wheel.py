@@ -15,7 +15,7 @@ import cefindrato
 
 FOUR = [[1, 2], [1, -2], [-1, 2], [-1, -2]]
 TEXT = b"p cnf 2 4\n1 2 0\n1 -2 0\n-1 2 0\n-1 -2 0\n"
-WRONG = "proof: step 1: clause neither follows nor is redundant by its first literal"
+WRONG = "proof: step 1: clause is neither RUP nor RAT on its first literal"
 
 
 class CNF:

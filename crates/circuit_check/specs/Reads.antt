@@ -18,7 +18,7 @@ pub record IsGates (known : Option (List ℕ)) (c : read.Circuit) : Type 0 where
   pub says : IsRead known c
   pub shape : IsCombinational (circuit_of c)
 
--- the text says a circuit with latches, bad outputs or constraints
+-- the text says a circuit with latches, bad state properties or invariant constraints
 pub record IsSequential (known : Option (List ℕ)) : Type 0 where
   pub circuit : read.Circuit
   pub says : IsRead known circuit

@@ -16,8 +16,8 @@ pub enum CircuitFault {
     /// The second circuit, or the invariant, was not read.
     #[error("second circuit: {0}")]
     OtherUnread(AigerFault),
-    /// A circuit has latches, bad outputs or constraints.
-    #[error("a circuit with latches, bad outputs or constraints")]
+    /// A circuit has latches, bad state properties or invariant constraints.
+    #[error("a circuit with latches, bad state properties or invariant constraints")]
     Sequential,
     /// There is no formula of the circuits.
     #[error("{0}")]
@@ -35,7 +35,7 @@ pub enum CircuitFault {
     #[error("step: {0}")]
     StepProof(RunFault),
     /// There is no verdict on the proof that the invariant excludes bad outputs.
-    #[error("bad outputs: {0}")]
+    #[error("bad states: {0}")]
     BadProof(RunFault),
     /// The formula could not be written.
     #[error("error writing: {0}")]

@@ -5,7 +5,7 @@ ghost use Rattle.circuit_check.specs.Claims.{IsCombinational};
 
 use circuit_text::Circuit;
 
-/// Whether a circuit has no latches, bad outputs and constraints.
+/// Whether a circuit has no latches, bad state properties and invariant constraints.
 pub(crate) fn is_combinational(circuit: &Circuit) -> bool
     ensures { IsTrue result ↔ IsCombinational (circuit_of circuit.now) }
 {

@@ -63,6 +63,6 @@ fn say_reach<R: Eprint>(rt: &R, reach: Reach) {
             eprintln!(rt; "the first value of latch {latch} is not its reset")
         }
         Reach::Broken(step) => eprintln!(rt; "a constraint is false at step {step}"),
-        Reach::Nowhere => eprintln!(rt; "no bad output is true at any step"),
+        Reach::Nowhere => eprintln!(rt; "no bad state is reached"),
     };
 }

@@ -24,7 +24,7 @@ pub enum ClausesFault {
     #[error("the machine has no outputs that could be bad")]
     NothingBad,
     /// The invariant is no circuit with one output and gates alone.
-    #[error("an invariant has one output, and no latches, bad outputs and constraints")]
+    #[error("an invariant has one output, and no latches, bad states and constraints")]
     NoInvariant,
     /// The invariant's inputs are not the machine's inputs and latches.
     #[error("the invariant's inputs are not as many as the machine's inputs and latches")]

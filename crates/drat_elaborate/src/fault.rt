@@ -13,11 +13,11 @@ pub enum ElaborateFault {
     TooLong,
     /// The clause that the step adds is used, and neither follows by propagation nor is RAT on its
     /// first literal.
-    #[error("step {step}: clause neither follows nor is redundant by its first literal")]
+    #[error("step {step}: clause is neither RUP nor RAT on its first literal")]
     NotRedundant { step: u64 },
     /// The clause that the step adds is used, and neither follows by propagation nor is redundant
     /// by its witness.
-    #[error("step {step}: clause neither follows nor is redundant by its witness")]
+    #[error("step {step}: clause is neither RUP nor PR by its witness")]
     NotRedundantByWitness { step: u64 },
     /// The witness of the step has a literal and its negation.
     #[error("step {step}: witness contradicts itself")]

@@ -14,7 +14,7 @@ pub struct MissingClause {
 impl Display for MissingClause {
     fn fmt<F: fmt::Write>(&self, f: &mut Formatter<F>) -> fmt::Result {
         let number = self.number;
-        write!(f, "clause {number} is not there behind the piece:")?;
+        write!(f, "clause {number} is not derived by the piece:")?;
         for lit in &self.lits {
             let lit = lit.to_dimacs();
             write!(f, " {lit}")?;
