@@ -22,7 +22,7 @@ use Rattle.circuit_check.specs.declared.fault.CircuitFault.TheVariants as faults
 use Rattle.circuit_check.specs.declared.fault.ReachFault.{ReachFault}
 use Rattle.circuit_check.specs.declared.fault.ReachFault.TheVariants as reaches
 use Rattle.circuit_check.specs.declared.line.Claim.{Claim}
-use Rattle.circuit_check.specs.declared.line.Claim.TheVariants.{Never, Safe, Same}
+use Rattle.circuit_check.specs.declared.line.Claim.TheVariants.{Safe}
 use Rattle.circuit_clauses.specs.declared.induction.Induction.{Induction}
 use Rattle.circuit_check_main.proofs.Naming.{read_as}
 use Rattle.circuit_check_main.specs.Meaning.{Answers, DifferentMeans, NeverMeans, PossibleMeans, Proves, ReachMeans, Runs, SafeMeans, SameMeans, Shown, answered, proved, ran, shown_status, shown_text, wrote}

@@ -18,8 +18,12 @@ use log::sink::Discard;
 use std::io::Write;
 use verdicts::ended;
 
-/// Runs a call with one circuit, and returns the exit status. An Err is that of a call that is not
-/// run.
+/// Runs a call with one circuit, and returns the exit status.
+///
+/// # Errors
+///
+/// `NotRun` if the options are wrong or a file can't be opened; `Failed` if there is no verdict, or
+/// what is to be written can't be. Standard error says why.
 pub(crate) fn run_of_never<S: OutputSystem, W: Write>(
     system: &S,
     call: &Call<'_>,
@@ -44,7 +48,7 @@ pub(crate) fn run_of_never<S: OutputSystem, W: Write>(
     }
 }
 
-/// Checks a proof, and returns the exit status. An Err is that of a file that can't be opened.
+/// Checks a proof, and returns the exit status. An Err is as of `run_of_never`.
 fn prove_never<S: System, W: Write>(
     system: &S,
     circuit: &str,
@@ -69,7 +73,7 @@ fn prove_never<S: System, W: Write>(
     ended(&outcome)
 }
 
-/// Checks an answer, and returns the exit status. An Err is that of a file that can't be opened.
+/// Checks an answer, and returns the exit status. An Err is as of `run_of_never`.
 fn answer_never<S: System, W: Write>(
     system: &S,
     circuit: &str,
@@ -88,7 +92,7 @@ fn answer_never<S: System, W: Write>(
 }
 
 /// Writes the formula, and returns the exit status. The file has its name once it is whole, and is
-/// not the circuit. An Err is that of a file that can't be opened or written.
+/// not the circuit. An Err is as of `run_of_never`.
 fn formula_of_never<S: OutputSystem>(
     system: &S,
     circuit: &str,

@@ -13,8 +13,12 @@ use command::{Call, Refusal, System, misused, say_cause};
 use std::io::{Eprint, Write};
 use verdicts::ended;
 
-/// Runs a call with a machine alone, and returns the exit status. An Err is that of a call that
-/// can't be run.
+/// Runs a call with a machine alone, and returns the exit status.
+///
+/// # Errors
+///
+/// `NotRun` if the options are wrong or a file can't be opened; `Failed` if there is no verdict, or
+/// its line can't be written. Standard error says why.
 pub(crate) fn run_of_reached<S: System, W: Write>(
     system: &S,
     call: &Call<'_>,
@@ -35,7 +39,7 @@ pub(crate) fn run_of_reached<S: System, W: Write>(
 }
 
 /// Runs a machine by a stimulus, and returns the exit status; standard error says why no bad output
-/// is reached. An Err is that of a file that can't be opened.
+/// is reached. An Err is as of `run_of_reached`.
 fn prove_reached<S: System, W: Write>(
     system: &S,
     machine: &str,

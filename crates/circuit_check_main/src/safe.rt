@@ -30,8 +30,12 @@ pub(crate) struct Machine<'a> {
     pub(crate) invariant: &'a str,
 }
 
-/// Runs a call with a machine and an invariant, and returns the exit status. An Err is that of a
-/// call that can't be run.
+/// Runs a call with a machine and an invariant, and returns the exit status.
+///
+/// # Errors
+///
+/// `NotRun` if the options are wrong or a file can't be opened; `Failed` if there is no verdict, or
+/// what is to be written can't be. Standard error says why.
 pub(crate) fn run_of_safe<S: OutputSystem, W: Write>(
     system: &S,
     call: &Call<'_>,
@@ -59,7 +63,7 @@ pub(crate) fn run_of_safe<S: OutputSystem, W: Write>(
     }
 }
 
-/// Checks three proofs, and returns the exit status. An Err is that of a file that can't be opened.
+/// Checks three proofs, and returns the exit status. An Err is as of `run_of_safe`.
 fn prove_safe<S: System, W: Write>(
     system: &S,
     names: Machine<'_>,
@@ -86,7 +90,7 @@ fn prove_safe<S: System, W: Write>(
     ended(&outcome)
 }
 
-/// Opens three proofs. An Err is that of a file that can't be opened.
+/// Opens three proofs. An Err is `NotRun`, if one can't be opened.
 fn open_proofs<S: System>(
     system: &S,
     proofs: PartNames<'_>,

@@ -27,8 +27,13 @@ pub(crate) struct Pair<'a> {
     pub(crate) rule: NameRule,
 }
 
-/// Runs a call with two circuits, and returns the exit status. An Err is that of a call that can't
-/// be run.
+/// Runs a call with two circuits, and returns the exit status.
+///
+/// # Errors
+///
+/// `NotRun` if the options are wrong or a file can't be opened; `Failed` if names are not compared,
+/// or differ and must not, there is no verdict, or what is to be written can't be. Standard error
+/// says why.
 pub(crate) fn run_of_same<S: OutputSystem, W: Write>(
     system: &S,
     call: &Call<'_>,
@@ -54,8 +59,7 @@ pub(crate) fn run_of_same<S: OutputSystem, W: Write>(
     }
 }
 
-/// Checks a proof, and returns the exit status. An Err is that of a file that can't be opened, or
-/// of circuits whose names are not compared, or differ and must not.
+/// Checks a proof, and returns the exit status. An Err is as of `run_of_same`.
 fn prove_same<S: System, W: Write>(
     system: &S,
     pair: Pair<'_>,
@@ -83,7 +87,7 @@ fn prove_same<S: System, W: Write>(
     ended(&outcome)
 }
 
-/// Checks an answer, and returns the exit status. An Err is as of `prove_same`.
+/// Checks an answer, and returns the exit status. An Err is as of `run_of_same`.
 fn answer_same<S: System, W: Write>(
     system: &S,
     pair: Pair<'_>,
@@ -103,7 +107,7 @@ fn answer_same<S: System, W: Write>(
     ended(&outcome)
 }
 
-/// Opens two circuits, and reads their texts as [`read_named`] does. An Err is that of a file that
+/// Opens two circuits, and reads their texts as [`read_named`] does. An Err is `NotRun`, if one
 /// can't be opened, or as of [`read_named`].
 fn read_pair<S: System>(system: &S, pair: Pair<'_>) -> Result<(Vec<u8>, Vec<u8>), Refusal>
     ensures first { IfOk result (λ texts. IfSome
@@ -117,7 +121,7 @@ fn read_pair<S: System>(system: &S, pair: Pair<'_>) -> Result<(Vec<u8>, Vec<u8>)
 }
 
 /// Writes the formula, and returns the exit status. The file has its name once it is whole, and is
-/// none of the circuits. An Err is as of `prove_same`, or that of a file that can't be written.
+/// none of the circuits. An Err is as of `run_of_same`.
 fn formula_of_same<S: OutputSystem>(
     system: &S,
     pair: Pair<'_>,

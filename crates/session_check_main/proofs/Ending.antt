@@ -1,5 +1,5 @@
 -- How a session ends, by its run.
-use Rattle.std.proofs.Common.{◌≡◌, ℕ, List, Option, Result, Ok, Err, refl}
+use Rattle.std.proofs.Common.{ℕ, List, Option, Result, Ok, Err, refl}
 use Rattle.session_check.specs.Counts.{all_shown}
 use Rattle.session_check.specs.Lines.{Texts}
 use Rattle.session_check.specs.Runs.{IsRun}
