@@ -1,4 +1,4 @@
-//! Whether a proof in lines of hints shows a formula to be unsatisfiable, by the hints of its lines.
+//! Whether a proof in lines of hints shows a formula to be unsatisfiable, by the hints alone.
 //!
 //! The checker of proofs takes no part in it.
 #![tactic(auto)]
