@@ -1,10 +1,10 @@
 #!/usr/bin/env bash
-# Counts the instructions that `drat_check` takes for four proofs, and compares them with the table of README.md:
+# Counts the instructions that `drat_check` takes for eight proofs, and compares them with the table of README.md:
 #
 #   benches/drat.sh [OTHER.cc]
 #
 # OTHER.cc is compiled by `g++ -O2` and called with a formula, a proof, and `--chains`; without it only `drat_check` is
-# counted. The formulas are made by seeds, and three of the proofs by cadical. A figure that is more than three parts in a
+# counted. The formulas are made by seeds, and all proofs but one by cadical. A figure that is more than three parts in a
 # hundred above the table makes the status 1. So does a proof that has another number of bytes than the table says, as by
 # another cadical: it can't be compared. The program is the one that `rt run` left in out/; PROGRAM may name another, and
 # TABLE another file with the table. It needs valgrind, python3 and cadical.
@@ -16,7 +16,7 @@ work=$(mktemp -d)
 trap 'rm -rf "$work"' EXIT
 
 made() {
-  python3 -B "$top/tests/drat/formulas.py" "$@"
+  python3 -B "$top/benches/drat_formulas.py" "$@"
 }
 
 # instructions WANTED COMMAND..: what the whole program takes, which must print this, if it is not empty
@@ -59,7 +59,12 @@ made pigeons 8 > "$work/pigeons.cnf"
 made multiplier 7 > "$work/multiplier.cnf"
 made pigeons 20 > "$work/extended.cnf"
 made extended 20 > "$work/extended.drat"
-for name in random pigeons multiplier; do
+made wide 48 1150 1 > "$work/wide.cnf"
+made progressions 3 9 77 > "$work/progressions.cnf"
+made langford 9 > "$work/langford.cnf"
+made sorters 18 > "$work/sorters.cnf"
+solved=(random pigeons multiplier wide progressions langford sorters)
+for name in "${solved[@]}"; do
   cadical -q --no-binary "$work/$name.cnf" "$work/$name.drat" > "$work/said" || true
 done
 if (($# > 0)); then
@@ -67,7 +72,7 @@ if (($# > 0)); then
 fi
 status=0
 printf '%-12s %10s %14s %14s\n' proof bytes drat_check other
-for name in random pigeons multiplier extended; do
+for name in "${solved[@]}" extended; do
   files=("$work/$name.cnf" "$work/$name.drat")
   bytes=$(stat -c %s "$work/$name.drat")
   ours=$(instructions 's VERIFIED UNSAT' "$program" "${files[@]}")

@@ -192,6 +192,55 @@ def registers(bits, steps, seed):
     return [*gates.clauses, differences]
 
 
+def wide(variables, count, seed):
+    """This many clauses of five literals, drawn at random."""
+    draw = random.Random(seed)
+    clauses = []
+    for _ in range(count):
+        some = draw.sample(range(1, variables + 1), 5)
+        clauses.append([draw.choice((1, -1)) * it for it in some])
+    return clauses
+
+
+def progressions(true, false, last):
+    """Of the numbers from 1 on, no arithmetic progression of one length is true throughout, and none of another length false."""
+    clauses = []
+    for sign, length in ((-1, true), (1, false)):
+        for step in range(1, last):
+            for first in range(1, last + 1 - (length - 1) * step):
+                clauses.append([sign * (first + place * step) for place in range(length)])
+    return clauses
+
+
+def langford(top):
+    """Two of each number from 1 on in a row, where as many others stand between them as the number says."""
+    places = [(number, first) for number in range(1, top + 1) for first in range(2 * top - number - 1)]
+    of_number, of_place = {}, {}
+    for variable, (number, first) in enumerate(places, 1):
+        of_number.setdefault(number, []).append(variable)
+        for place in (first, first + number + 1):
+            of_place.setdefault(place, []).append(variable)
+    clauses = list(of_number.values())
+    for some in (*of_number.values(), *of_place.values()):
+        clauses += [[-a, -b] for a, b in itertools.combinations(some, 2)]
+    return clauses
+
+
+def sorters(inputs):
+    """Bits sorted by neighbours from the front on, and by pairs of neighbours in turn, told to differ."""
+    gates = Gates()
+    bits = [gates.new() for _ in range(inputs)]
+    bubbles = [at for end in range(inputs - 1, 0, -1) for at in range(end)]
+    turns = [at for turn in range(inputs) for at in range(turn % 2, inputs - 1, 2)]
+    both = [bits[:], bits[:]]
+    for row, order in zip(both, (bubbles, turns)):
+        for at in order:
+            x, y = row[at], row[at + 1]
+            row[at], row[at + 1] = -gates.both(-x, -y), gates.both(x, y)
+    differences = [gates.odd(x, y) for x, y in zip(*both)]
+    return [*gates.clauses, differences]
+
+
 def define(clauses, count, seed):
     """Steps that name pairs of literals by new variables, and use the names; and the clauses that they leave."""
     draw = random.Random(seed)
@@ -250,6 +299,10 @@ FAMILIES = {
     "dominoes": lambda *it: dimacs(dominoes(*it)),
     "adders": lambda *it: dimacs(adders(*it)),
     "registers": lambda *it: dimacs(registers(*it)),
+    "wide": lambda *it: dimacs(wide(*it)),
+    "progressions": lambda *it: dimacs(progressions(*it)),
+    "langford": lambda *it: dimacs(langford(*it)),
+    "sorters": lambda *it: dimacs(sorters(*it)),
 }
 
 
