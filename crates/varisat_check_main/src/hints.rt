@@ -6,7 +6,7 @@ ghost use Rattle.command.specs.Outputs.{Gives};
 ghost use Rattle.sat_formula.specs.Refuted.{IsRefuted};
 ghost use Rattle.varisat_check.specs.Verdicts.{shown_line, shows_unsat};
 ghost use Rattle.varisat_check.specs.declared.verdict.Verdict.TheVariants.{Unsatisfiable};
-ghost use Rattle.varisat_check_main.specs.Meaning.{MeansOf};
+ghost use Rattle.varisat_check_main.specs.Meaning.{AreHints, HasHints, MeansOf};
 ghost use Rattle.verdicts.specs.Statuses.{Ends, status_shown};
 
 use crate::about::ABOUT;
@@ -42,9 +42,10 @@ pub(crate) fn write_hints<S: OutputSystem, W: Write>(
 ) -> Result<u8, Refusal>
     ensures ends { Ends shown_line (status_shown shows_unsat)
         (λ verdict. MeansOf (bytes_named (S.file_bytes system.now) (S.input_bytes system.now)
-        names.entry.cnf.now) verdict × (S.unwritten system.now ≡ Some []
-        → (bytes : List ℕ) × Gives (S.renamed given.old) (S.renamed given.new)
-        (S.place system.now lrat_name.now) (Some bytes)))
+        names.entry.cnf.now) verdict
+        × HasHints (bytes_named (S.file_bytes system.now) (S.input_bytes system.now) names.entry.cnf.now)
+        (S.unwritten system.now) (S.place system.now lrat_name.now)
+        (S.renamed given.old) (S.renamed given.new))
         (S.renamed given.new ≡ S.renamed given.old)
         (W.contents out.old) (W.contents out.new) result }
 {
@@ -97,7 +98,6 @@ fn name_hints<S: OutputSystem>(
 }
 
 /// Runs the check with a writer of hints, whose output goes to `lrat`.
-#[tactic(auto, using(crate::proofs::Meaning::is_known))]
 fn hints_of<L: Log, P: Read + Drop, V: Write>(
     log: &L,
     alloc: Global,
@@ -107,8 +107,8 @@ fn hints_of<L: Log, P: Read + Drop, V: Write>(
     lie: &mut Option<LyingHeader>,
 ) -> Result<Verdict, RunFault>
     ensures refutes { result ≡ Ok Unsatisfiable → IsRefuted (held_in cnf) }
-    ensures known { V.contents lrat.old ≡ Some [] → IfOk result (λ verdict.
-        (bytes : List ℕ) × (V.contents lrat.new ≡ Some bytes)) }
+    ensures hints { V.contents lrat.old ≡ Some [] → IfOk result (λ verdict. (bytes : List ℕ)
+        × AreHints (held_in cnf) bytes × (V.contents lrat.new ≡ Some bytes)) }
 {
     let formula = read_formula(alloc, cnf, lie)?;
     let writer = LratWriter::new(alloc, formula.len() as u64);

@@ -52,8 +52,8 @@ fn run<S: OutputSystem, W: Write>(
 ) -> Result<u8, Refusal>
     ensures ends { Ends shown_line (status_shown shows_unsat)
         (λ verdict. Means (S.file_bytes system.now) (S.input_bytes system.now) call.now verdict
-        × NamesHints (S.unwritten system.now) (S.place system.now) (operands_of call.now)
-        (S.renamed given.old) (S.renamed given.new))
+        × NamesHints (S.file_bytes system.now) (S.input_bytes system.now) (S.unwritten system.now)
+        (S.place system.now) (operands_of call.now) (S.renamed given.old) (S.renamed given.new))
         (S.renamed given.new ≡ S.renamed given.old)
         (W.contents out.old) (W.contents out.new) result }
 {
