@@ -1,6 +1,7 @@
 #!/usr/bin/env bash
 # Whether the tests are as many as tests/figures.txt says: wrong bodies of each crate, those that each run tries, wrong definitions,
-# must-fail edits, rows, vectors of calls, cases of scripts, and scripts of ./test.sh.
+# must-fail edits, rows, vectors of calls, cases of scripts, and scripts of ./test.sh. And whether the scripts of the repository are as large
+# as it says: those above 400 lines, their functions above 40, their lines above 100 columns.
 #
 #   tests/figures.sh            fails where a number is smaller than there, or larger and not written down, and where a list is empty
 #   tests/figures.sh --write    writes the numbers, and says which are smaller than before
@@ -27,8 +28,28 @@ counted() {
   echo "$1: $sum"
 }
 
+# measured FILE..: how large scripts are. A function is what stands further in than its first line.
+measured() {
+  awk '
+    function ended() { functions += body > 40; open = -1; body = 0 }
+    FNR == 1 { files += last > 400; ended() }
+    { last = FNR; wide += length($0) > 100 }
+    match($0, /[^ ]/) {
+      if (open >= 0 && RSTART <= open) ended()
+      if (open >= 0) body++
+      else if ($0 ~ /^ *(def .*|[a-z0-9_]+\(\) [{])$/) open = RSTART
+    }
+    END {
+      files += last > 400
+      ended()
+      print "scripts above 400 lines: " files
+      print "functions of scripts above 40 lines: " functions + 0
+      print "lines of scripts above 100 columns: " wide + 0
+    }' "$@"
+}
+
 counts() {
-  local scripts=() edits=(crates/*/must-fail/*.edit)
+  local scripts=() tools=() edits=(crates/*/must-fail/*.edit)
   counted 'wrong bodies' '^# ' crates/*/wrong-bodies/wrong-bodies.txt
   counted 'wrong bodies of each run' '^[^#]' tests/wrong_bodies/always.txt
   counted 'wrong definitions' '^# ' crates/definition_rows/wrong-definitions.txt
@@ -36,6 +57,8 @@ counts() {
   counted 'vectors of calls' '^[^#]' crates/check_vectors/data/*
   counted 'cases' '^case_[a-z0-9_]*() {$' tests/*.sh
   ((${#edits[@]} == 0)) || echo "must-fail edits: ${#edits[@]}"
+  mapfile -t tools < <(grep -d skip -lm 1 '^#!/' tools/*)
+  measured ./*.sh {benches,bindings,docs,lib/*,tests,tests/*,tools/*}/*.{sh,py} "${tools[@]}"
   eval "$(sed -n '/^scripts=(/,/)$/p' test.sh)"
   echo "scripts of ./test.sh: ${#scripts[@]}"
 }

@@ -230,18 +230,26 @@ case_archive() {
   runs 1 last library
 }
 
-# A copy of what is counted
-case_figures() {
+# copied: into a copy of what is counted
+copied() {
   mkdir copy
-  (cd "$top" && tar -c --exclude=./.git --exclude=out ./test.sh ./tests ./crates/*/{wrong-bodies,must-fail} ./crates/{check_vectors,definition_rows}) 2> "$work/null" | tar -x -C copy || true
+  (cd "$top" && tar -c --exclude=./.git --exclude=out ./test.sh ./tests ./crates/*/{wrong-bodies,must-fail} ./crates/{check_vectors,definition_rows}) \
+    2> "$work/null" | tar -x -C copy || true
   cd copy
-  # counts STATUS WHAT LINE..
-  counts() {
-    local status=0
-    tests/figures.sh > "$work/said" 2>&1 || status=$?
-    same "$2: status" "$1" "$status"
-    tells "${@:3}"
-  }
+  # (not all scripts are there)
+  tests/figures.sh --write > "$work/said"
+}
+
+# counts STATUS WHAT LINE..
+counts() {
+  local status=0
+  tests/figures.sh > "$work/said" 2>&1 || status=$?
+  same "$2: status" "$1" "$status"
+  tells "${@:3}"
+}
+
+case_figures() {
+  copied
   counts 0 'as it is'
   cp -r . ../whole
   sed -i '/^[^#]/d' tests/wrong_bodies/always.txt
@@ -265,6 +273,22 @@ case_figures() {
   counts 0 'a case more that is written'
   sed -i 's/^scripts=(library/scripts=(/' test.sh
   counts 1 'a script less'
+}
+
+# one_more WHAT: the line that tells it
+one_more() {
+  local number
+  number=$(sed -n "s/^$1: //p" tests/figures.txt)
+  echo "more: $1, $((number + 1)) for $number"
+}
+
+case_sizes() {
+  copied
+  printf '# %s\n' {1..401} > tests/long.sh
+  counts 1 'a script that is too long' "$(one_more 'scripts above 400 lines')"
+  { echo 'long() {' && printf '  : %s\n' {1..41} && echo '}' && printf '# %99s\n' wide; } > tests/long.sh
+  counts 1 'a long function, and a wide line' \
+    "$(one_more 'functions of scripts above 40 lines')" "$(one_more 'lines of scripts above 100 columns')"
 }
 
 # What reads a list fails over an empty one.

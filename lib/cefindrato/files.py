@@ -1,4 +1,4 @@
-"""Files: those that are read, packed or not, and those that are written only once they are whole."""
+"""Files that are read, packed or not, and files that are written only once they are whole."""
 
 import contextlib
 import hashlib
@@ -13,7 +13,7 @@ from typing import IO, Any, Callable, Iterable, Iterator, List, Optional, Tuple,
 
 from .faults import Damaged, Unopened, Unusable
 
-# What unpacks a file, by the end of its name; and the modules of Python that do what these programs do.
+# What unpacks a file, by the end of its name; and modules of Python that do the same.
 PACKERS = {".gz": "gzip", ".xz": "xz", ".bz2": "bzip2", ".lzma": "lzma", ".zst": "zstd"}
 MODULES = {"gzip": "gzip", "xz": "lzma", "bzip2": "bz2", "lzma": "lzma"}
 BLOCK = 1 << 16
@@ -35,9 +35,11 @@ def opened(path: str) -> BufferedReader:
 
 
 def blocks_of(path: str) -> Iterator[bytes]:
-    """Returns what a file holds, unpacked if its name is that of a packed one, in blocks that are not empty.
+    """Returns what a file holds, unpacked if its name is that of a packed one, in blocks that
+    are not empty.
 
-    It raises Unusable at once if its packer is missing, and Unopened if it can't be opened; Damaged at the block that can't be unpacked.
+    It raises Unusable at once if its packer is missing, and Unopened if it can't be opened;
+    Damaged at the block that can't be unpacked.
     """
     packer = packer_of(path)
     if packer is None:
@@ -68,10 +70,12 @@ def module_blocks(module: Any, file: BufferedReader, path: str) -> Iterator[byte
         try:
             if not file.peek(1):
                 raise EOFError("it is empty")
-            yield from xz_blocks(module, file) if module.__name__ == "lzma" else opened_blocks(module, file)
+            is_xz = module.__name__ == "lzma"
+            yield from xz_blocks(module, file) if is_xz else opened_blocks(module, file)
         except Exception as why:
             # (each module has errors of its own; those of the system have a text)
-            raise Damaged(f"cannot unpack {path}: {getattr(why, 'strerror', None) or why}") from None
+            text = getattr(why, "strerror", None) or why
+            raise Damaged(f"cannot unpack {path}: {text}") from None
 
 
 def opened_blocks(module: Any, file: BufferedReader) -> Iterator[bytes]:
@@ -81,7 +85,8 @@ def opened_blocks(module: Any, file: BufferedReader) -> Iterator[bytes]:
 
 
 def xz_blocks(lzma: Any, file: BufferedReader) -> Iterator[bytes]:
-    """Yields what is in one stream after the other. (`lzma.open` passes over a stream whose first bytes are damaged.)"""
+    """Yields what is in one stream after the other. (`lzma.open` passes over a stream whose first
+    bytes are damaged.)"""
     packed = file.read(BLOCK)
     while packed:
         stream = lzma.LZMADecompressor()
@@ -100,13 +105,15 @@ def xz_blocks(lzma: Any, file: BufferedReader) -> Iterator[bytes]:
 
 def program_blocks(packer: str, file: BufferedReader, path: str) -> Iterator[bytes]:
     """Yields what a program unpacks. One whose output nobody reads any more is ended."""
-    with file, subprocess.Popen([packer, "-dcq"], stdin=file, stdout=subprocess.PIPE, stderr=subprocess.PIPE) as ran:
+    pipe = subprocess.PIPE
+    with file, subprocess.Popen([packer, "-dcq"], stdin=file, stdout=pipe, stderr=pipe) as ran:
         assert ran.stdout and ran.stderr
         while block := ran.stdout.read(BLOCK):
             yield block
         said = ran.stderr.read().decode(errors="replace").strip()
     if ran.returncode:
-        raise Damaged(f"cannot unpack {path}: {(said or f'{packer} ended with status {ran.returncode}').splitlines()[0]}")
+        said = said or f"{packer} ended with status {ran.returncode}"
+        raise Damaged(f"cannot unpack {path}: {said.splitlines()[0]}")
 
 
 def lines_of(path: str) -> Iterator[bytes]:
@@ -129,7 +136,7 @@ def content_of(path: str) -> bytes:
 
 
 def unpacked(path: str) -> IO[bytes]:
-    """Returns what a packed file holds as a file that has no name, and is deleted with its last reader."""
+    """Returns what a packed file holds, as a file without a name that its last reader deletes."""
     plain = tempfile.TemporaryFile()
     for block in blocks_of(path):
         plain.write(block)
@@ -139,7 +146,7 @@ def unpacked(path: str) -> IO[bytes]:
 
 
 def name_of(file: IO[bytes]) -> str:
-    """Returns a name by which programs can open a file that has none, while this process has it open."""
+    """Returns a name by which programs can open a file without one, while it is open here."""
     return f"/proc/{os.getpid()}/fd/{file.fileno()}"
 
 
@@ -162,7 +169,8 @@ def sum_of(path: str) -> str:
 
 
 def operand(path: str) -> str:
-    """Returns a file's name as a program takes it, which reads standard input for -, and an option where a name begins so."""
+    """Returns a file's name as a program takes it, which reads standard input for -, and an option
+    where a name begins so."""
     return os.path.join(".", path) if path.startswith("-") else path
 
 
@@ -175,22 +183,28 @@ def known_as(path: Path) -> Optional[Tuple[int, int]]:
     return found.st_dev, found.st_ino
 
 
-def refuse_writing(outputs: Iterable[str], inputs: Iterable[Path], is_own: Callable[[str], object], writer: str) -> None:
-    """Decides what may be written or deleted, before anything is: no file that is read, by whatever name, and of what is there
-    only what this writer, a script, wrote. An input that is standard input is named by its descriptor."""
+def refuse_writing(
+    outputs: Iterable[str], inputs: Iterable[Path], is_own: Callable[[str], object], writer: str
+) -> None:
+    """Decides what may be written or deleted, before anything is: no file that is read, by
+    whatever name, and of what is there only what this writer, a script, wrote. An input that is
+    standard input is named by its descriptor.
+    """
     read_files = {known_as(it): it for it in inputs}
     for path in outputs:
         if not os.path.lexists(path):
             continue
         same = known_as(path)
         if same and same in read_files:
-            raise Unusable(f"cannot write {path}: it is a file that is read, {read_files[same] or 'standard input'}")
+            name = read_files[same] or "standard input"
+            raise Unusable(f"cannot write {path}: it is a file that is read, {name}")
         if not is_own(path):
             raise Unusable(f"cannot write {path}: there is a file that {writer} did not write")
 
 
 def destination(name: str, inputs: Iterable[str]) -> str:
-    """Returns where an output is written: the file that its name leads to, unless that is one that is read, by any name."""
+    """Returns where an output is written: the file that its name leads to, unless that is one that
+    is read, by any name."""
     place = os.path.realpath(name)
     for other in inputs:
         if os.path.exists(place) and os.path.samefile(place, other):
@@ -199,7 +213,8 @@ def destination(name: str, inputs: Iterable[str]) -> str:
 
 
 def keep(path: str, text: bytes) -> None:
-    """Writes a file under a name that no other has, and then renames it, so that a run that is cut off leaves none."""
+    """Writes a file under a name that no other has, and then renames it, so that a run that is cut
+    off leaves none."""
     apart = f"{path}.{secrets.token_hex(4)}.new"
     try:
         with open(apart, "xb") as file:
@@ -215,7 +230,8 @@ def keep(path: str, text: bytes) -> None:
 
 
 def put(place: str, text: str) -> None:
-    """Writes a file that has its name once it is whole, and the mode of the one before it; a pipe or a device is written in place."""
+    """Writes a file that has its name once it is whole, and the mode of the one before it; a pipe
+    or a device is written in place."""
     if os.path.exists(place) and not os.path.isfile(place):
         with open(place, "w", encoding="utf-8") as file:
             file.write(text)

@@ -16,7 +16,8 @@ def beside(own: str, name: str) -> Iterator[str]:
 
 
 def program(own: str, name: str) -> str:
-    """Returns the program that the environment names in place of this one, or else the one beside the script, or its name, for PATH."""
+    """Returns the program that the environment names in place of this one, or else the one beside
+    the script, or its name, for PATH."""
     named = os.environ.get(name.upper())
     return named if named else next(beside(own, name), name)
 
@@ -35,7 +36,8 @@ def first_line(*texts: bytes) -> str:
 
 
 def said_by(ran: "subprocess.CompletedProcess[bytes]", *texts: bytes, of: str = "") -> str:
-    """Returns the first line of what a program said. With status 2 it says nothing of what it was to check."""
+    """Returns the first line of what a program said. With status 2 it says nothing of what it was
+    to check."""
     said = first_line(*texts) or f"{ran.args[0]} ended with status {ran.returncode}"
     if ran.returncode == 2:
         raise Unusable(f"{ran.args[0]} cannot be asked{of}: {said}")

@@ -16,7 +16,8 @@ class Receipts:
     """Receipts of some kinds."""
 
     def __init__(self, *kinds: str) -> None:
-        self.form = re.compile("|".join(receipt(f"({kind})", *["([0-9a-f]{64})"] * SUMS[kind]) for kind in kinds))
+        forms = (receipt(f"({kind})", *["([0-9a-f]{64})"] * SUMS[kind]) for kind in kinds)
+        self.form = re.compile("|".join(forms))
         self.wholes = [receipt(kind, *["0" * 64] * SUMS[kind]) for kind in kinds]
 
     def parts_of(self, text: Optional[str]) -> Optional[List[str]]:
@@ -25,7 +26,9 @@ class Receipts:
         return [it for it in found.groups() if it is not None] if found else None
 
     def is_cut_off(self, text: Optional[str]) -> bool:
-        """Whether there is a text that is the beginning of a receipt: what is left of it where a machine stopped, or a copy did."""
+        """Whether there is a text that is the beginning of a receipt: what is left of it where a
+        machine stopped, or a copy did."""
         if text is None:
             return False
-        return any(len(text) < len(whole) and self.parts_of(text + whole[len(text) :]) is not None for whole in self.wholes)
+        wholes = [it for it in self.wholes if len(text) < len(it)]
+        return any(self.parts_of(text + it[len(text) :]) is not None for it in wholes)

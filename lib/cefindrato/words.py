@@ -36,7 +36,8 @@ class Says(argparse.Action):
 
 
 class Calls(Words):
-    """The words of a script that has several calls, by their names and their operands, of which the last may end in `..`."""
+    """The words of a script that has several calls, by their names and their operands, of which the
+    last may end in `..`."""
 
     more = "; {} --help says more"
 
@@ -50,7 +51,8 @@ class Calls(Words):
         self.add_argument("-V", "--version", action="store_true")
         options, unknown = self.parse_known_intermixed_args(words)
         if unknown:
-            self.error(f"there is no option {next((it for it in unknown if it[:1] == '-' != it), unknown[0])}")
+            option = next((it for it in unknown if it[:1] == "-" != it), unknown[0])
+            self.error(f"there is no option {option}")
         return options
 
     def has_said(self, options: argparse.Namespace, text: str) -> bool:
@@ -74,7 +76,8 @@ class Calls(Words):
 
 
 def after_options(words: List[str]) -> int:
-    """Returns the place of `--`, or else of the end: what is behind it is no option, which intermixed words forget."""
+    """Returns the place of `--`, or else of the end: what is behind it is no option, which
+    intermixed words forget."""
     return words.index("--") if "--" in words else len(words)
 
 
@@ -83,8 +86,11 @@ def leave_output() -> None:
     os.dup2(os.open(os.devnull, os.O_WRONLY), sys.stdout.fileno())
 
 
-def run_main(main: Callable[[List[str]], int], errors: str = "surrogateescape", when_left: int = 2) -> int:
-    """Calls `main` with the words, and returns the status, or this one if who reads standard output has had enough.
+def run_main(
+    main: Callable[[List[str]], int], errors: str = "surrogateescape", when_left: int = 2
+) -> int:
+    """Calls `main` with the words, and returns the status, or this one if who reads standard
+    output has had enough.
 
     A name of a file need not be UTF-8: `errors` says how it is written.
     """

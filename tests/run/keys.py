@@ -98,7 +98,7 @@ class Key:
         if path.startswith("tools/") or re.search(r"(?m)\bon_path |\btools\b", code):
             self.todo += [it for it in self.files if re.fullmatch(r"tools/\w+", it) and it[len("tools/") :] in words - BY_PATH]
         if path.endswith(".py") or PYTHON.match(code):
-            for module in {it.strip(" .") for names in IMPORT.findall(code) for it in re.split(r",| import ", names)}:
+            for module in {it.strip(" .").replace(".", "/") for names in IMPORT.findall(code) for it in re.split(r",| import ", names)}:
                 beside = os.path.join(os.path.dirname(path), f"{module}.py")
                 others = (f"/{module}.py", f"lib/{module}/__init__.py")
                 self.todo += [beside] if os.path.isfile(beside) else [it for it in self.files if it.endswith(others)]
