@@ -31,6 +31,8 @@ from records import ROOT, Record, bodies, crates_with_wrong_bodies
 # How many copies one check has. One of 30 copies in a program ends without a line for any of them.
 BATCH, PROGRAM_BATCH = 30, 8
 
+MODES = ("", "--records", "--asked", "--stale", "--new", "--gated")
+
 
 def waiting():
     """The crates of `waiting.txt`, whose wrong bodies are still to be tried over what stands now."""
@@ -204,6 +206,9 @@ def try_crates(wanted, after_gate=False):
 
 def main(words):
     mode, rest = (words[0], words[1:]) if words and words[0].startswith("--") else ("", words)
+    if mode not in MODES:
+        print(f"there is no option {mode}; there are:", *filter(None, MODES), file=sys.stderr)
+        return 2
     if mode == "--records":
         return check_records()
     if mode == "--asked":

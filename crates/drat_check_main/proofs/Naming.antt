@@ -1,10 +1,10 @@
 -- The outputs of a run, and those that have their names.
-use Rattle.std.proofs.Common.{◌≡◌, ℕ, inl, inr, true, List, [], Option, Some, None, Result, Ok, Err, refl, is_some, codes, false, option_and_then}
+use Rattle.std.proofs.Common.{◌≡◌, ℕ, inl, inr, List, [], Option, Some, None, Result, Ok, Err, refl}
 use Rattle.std.specs.Io.Buffered.{writer_contents}
 use Rattle.std.specs.Io.KnownBytes.{Appends}
 use Rattle.std.specs.Prelude.{IfOk, IsErr, IsOk}
 use Rattle.std.specs.declared.io.buffered.BufWriter.{BufWriter}
-use Rattle.command.specs.Calls.{Choice, given, is_given, value_given}
+use Rattle.command.specs.Calls.{Choice}
 use Rattle.command.specs.Outputs.{Gives, begun, place_of, written_in}
 use Rattle.drat_check.specs.Outputs.{bytes_in}
 use Rattle.drat_check.specs.declared.outputs.Outputs.{Outputs}
@@ -15,21 +15,6 @@ use Rattle.verdicts.specs.declared.piece.PieceVerdict.{PieceVerdict}
 
 abbrev pub Given : Type 0
 Given = Option (List (List ℕ × List ℕ))
-
--- a piece's run has no trimmed steps, if its options exclude them
-value_is_given : (choice : Option Choice) (value : List ℕ) → option_and_then (λ (c : Choice). c.value) choice ≡ Some value → is_some choice ≡ true
-value_is_given None value e = absurd (cc)
-value_is_given (Some c) value e = refl
-
-no_value : (choice : Option Choice) → is_some choice ≡ false → option_and_then (λ (c : Choice). c.value) choice ≡ None
-no_value None e = refl
-no_value (Some c) e = absurd (cc)
-
-pub no_trim : (options : List Choice) (value : List ℕ)
-    → (is_given options (codes "--holds") ≡ true → is_given options (codes "--trim") ≡ false)
-    → value_given options (codes "--holds") ≡ Some value → trim_name options ≡ None
-no_trim options value apart said =
-    no_value (given options (codes "--trim")) (apart (value_is_given (given options (codes "--holds")) value said))
 
 -- one word for what an output holds
 pub same_bytes : {F A : Type 0} (contents : F → Option (List ℕ)) (out : Option (BufWriter F A)) → bytes_in (writer_contents contents) out ≡ written_in contents out

@@ -9,7 +9,7 @@ use Rattle.std.specs.Prelude.{◌≡◌, ◌⊎◌, ℕ, List, [], ◌∷◌, Op
 use Rattle.command.specs.Calls.{choices_of, is_given, operands_of, value_given}
 use Rattle.command.specs.Inputs.{bytes_named}
 use Rattle.command.specs.declared.call.Call.{Call}
-use Rattle.drat_check_main.specs.Named.{GivesAll, NamesPiece, NamesProof, NamesSome, ThenReceipt, empty_outputs}
+use Rattle.drat_check_main.specs.Named.{GivesAll, NamesPiece, NamesProof, NamesSome, ThenReceipt, empty_outputs, trim_name}
 use Rattle.receipt_files.specs.Named.{carries_of, refuted_of}
 use Rattle.sat_formula.specs.Refuted.{IsRefuted}
 use Rattle.verdicts.specs.Texts.{CarriesText, OfFormula}
@@ -69,13 +69,14 @@ module _ (unwritten : Option (List ℕ)) (place : List ℕ → Option (List ℕ)
       pub unasked : value_given (choices_of call) (codes "--holds") ≡ None
       pub shown : ShowsProof (bytes_named files input cnf) verdict
 
-    -- a piece between a formula and target clauses
+    -- a piece between a formula and target clauses, whose steps are not trimmed
     pub record ShowsPieceFiles (verdict : PieceVerdict) : Type 0 where
       pub cnf : List ℕ
       pub piece : List ℕ
       pub holds : List ℕ
       pub operands : operands_of call ≡ cnf ∷ piece ∷ []
       pub asked : value_given (choices_of call) (codes "--holds") ≡ Some holds
+      pub untrimmed : trim_name (choices_of call) ≡ None
       pub shown : ShowsPiece (bytes_named files input cnf) (files holds) verdict
 
     -- what the call asks for
