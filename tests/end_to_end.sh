@@ -14,8 +14,8 @@ begin() {
   mkdir "$work/cases" "$work/want"
 }
 
-# expect NAME STATUS OUTPUT ERRORS [ARGUMENT..]: a run with these arguments, and what it must do
-expect() {
+# wanted NAME STATUS OUTPUT ERRORS [ARGUMENT..]: a run with these arguments, and what it must do
+wanted() {
   local name=$1 status=$2 output=$3 errors=$4
   shift 4
   names+=("$name")
@@ -28,22 +28,22 @@ expect() {
 
 # refused NAME FILE ERROR ARGUMENT..: a run with these arguments that is refused for a fault of the file
 refused() {
-  expect "$1" 1 '' "$3"$'\n'"in $2" "${@:4}"
+  wanted "$1" 1 '' "$3"$'\n'"in $2" "${@:4}"
 }
 
 # misspelled NAME FILE ERROR PART ARGUMENT..: the same of a formula, in which this word or header is wrong
 misspelled() {
-  expect "$1" 1 '' "$3"$'\n'"in $2"$'\n'"${3##*: }: $4" "${@:5}"
+  wanted "$1" 1 '' "$3"$'\n'"in $2"$'\n'"${3##*: }: $4" "${@:5}"
 }
 
 # misused NAME WHY CALL ARGUMENT..: a call that can't be read, with the words of how it is made
 misused() {
-  expect "$1" 2 '' "$2"$'\nusage: '"$3"$'\n'"${3%% *} --help says more" "${@:4}"
+  wanted "$1" 2 '' "$2"$'\nusage: '"$3"$'\n'"${3%% *} --help says more" "${@:4}"
 }
 
 # begun_as NAME FILE KIND ERROR ARGUMENT..: one that is refused for a file which begins as one of this kind
 begun_as() {
-  expect "$1" 1 '' "$4"$'\n'"$2 begins as $3" "${@:5}"
+  wanted "$1" 1 '' "$4"$'\n'"$2 begins as $3" "${@:5}"
 }
 
 # run_cases CRATE: runs the program that was built on the cases, each in a folder with the files as they were
@@ -104,7 +104,7 @@ shorten() {
 # or where the first hash, in the step AT and at the offset, begins with another byte
 refutes() {
   local cnf=$1.cnf proof=$1.$2.proof
-  expect "$1_$2" 0 's UNSATISFIABLE' '' "$cnf" "$proof"
+  wanted "$1_$2" 0 's UNSATISFIABLE' '' "$cnf" "$proof"
   shorten "$proof"
   refused "$1_$2_short" "short.$proof" "step $3: Unexpected end of proof file" "$cnf" "short.$proof"
   change "$proof" "$5" "$6"
@@ -136,7 +136,7 @@ for file in "$top"/tests/data/*.proof; do
   name=${proof%.proof}
   name=${name/./_}
   proofs+=("$name")
-  expect "$name" 0 's UNSATISFIABLE' '' "${proof%%.*}.cnf" "$proof" /dev/stderr
+  wanted "$name" 0 's UNSATISFIABLE' '' "${proof%%.*}.cnf" "$proof" /dev/stderr
 done
 run_cases varisat_check_main
 for proof in "${proofs[@]}"; do
@@ -167,17 +167,17 @@ case_varisat_check() {
   refutes grid5 v2 1181 1 11 cd
 
   misspelled malformed malformed.cnf 'line 2: bad number' x malformed.cnf end.proof
-  expect added 3 's UNSATISFIABLE WITH 1 ADDED CLAUSES' '' unit.cnf empty_clause.proof
-  expect not_shown 3 's NOT SHOWN' '' unit.cnf end.proof
+  wanted added 3 's UNSATISFIABLE WITH 1 ADDED CLAUSES' '' unit.cnf empty_clause.proof
+  wanted not_shown 3 's NOT SHOWN' '' unit.cnf end.proof
   refused no_proof nothing.proof 'step 1: Unexpected end of proof file' unit.cnf nothing.proof
-  expect no_arguments 0 's UNSATISFIABLE' ''
-  expect version 0 'varisat_check 0.4.0 (built from sources)' '' --version
+  wanted no_arguments 0 's UNSATISFIABLE' ''
+  wanted version 0 'varisat_check 0.4.0 (built from sources)' '' --version
   misused one_argument 'no file is named for PROOF' 'varisat_check CNF PROOF [LRAT] [--quiet] [--verbose]' unit.cnf
   misused four_arguments 'unexpected argument: more.lrat' 'varisat_check CNF PROOF [LRAT] [--quiet] [--verbose]' unit.cnf end.proof hints.lrat more.lrat
-  expect hints 0 's UNSATISFIABLE' '' par10.cnf par10.whole.proof hints.lrat
+  wanted hints 0 's UNSATISFIABLE' '' par10.cnf par10.whole.proof hints.lrat
   refused hints_of_a_refused_proof nothing.proof 'step 1: Unexpected end of proof file' unit.cnf nothing.proof hints.lrat
-  expect missing_formula 2 '' $'cannot open absent.cnf\nNo such file or directory (os error 2)' absent.cnf absent.proof
-  expect missing_proof 2 '' $'cannot open absent.proof\nNo such file or directory (os error 2)' malformed.cnf absent.proof
+  wanted missing_formula 2 '' $'cannot open absent.cnf\nNo such file or directory (os error 2)' absent.cnf absent.proof
+  wanted missing_proof 2 '' $'cannot open absent.proof\nNo such file or directory (os error 2)' malformed.cnf absent.proof
   # odd formulas: a CR is a blank; a byte order mark, a NUL byte and compressed text are no numbers
   four=(1\ 2 1\ -2 -1\ 2 -1\ -2)
   printf 'p cnf 2 4\r\n' > "$work/files/cr_lf.cnf"
@@ -186,11 +186,11 @@ case_varisat_check() {
   printf '\xef\xbb\xbf1 0\n' > "$work/files/byte_order_mark.cnf"
   printf '1 0\n\x00\n-1 0\n' > "$work/files/nul.cnf"
   printf '1 0\n-1 0\n' | gzip -n > "$work/files/compressed.cnf"
-  expect cr_lf 0 's UNSATISFIABLE' '' cr_lf.cnf four.proof
+  wanted cr_lf 0 's UNSATISFIABLE' '' cr_lf.cnf four.proof
   begun_as byte_order_mark byte_order_mark.cnf 'text with a byte order mark' 'line 1: bad number' byte_order_mark.cnf end.proof
   misspelled nul_byte nul.cnf 'line 2: bad number' '\x00' nul.cnf end.proof
   begun_as compressed compressed.cnf 'a gzip file' 'line 1: bad number' compressed.cnf end.proof
-  expect empty_formula 3 's NOT SHOWN' '' nothing.proof end.proof
+  wanted empty_formula 3 's NOT SHOWN' '' nothing.proof end.proof
   refused folder / 'error reading formula: Is a directory (os error 21)' / end.proof
   # odd proofs
   refused empty_proof nothing.proof 'step 1: Unexpected end of proof file' cr_lf.cnf nothing.proof
@@ -199,7 +199,7 @@ case_varisat_check() {
   refused nul_bytes_in_proof /dev/zero 'step 1: Could not parse proof step: unknown step tag' unit.cnf /dev/zero
   begun_as text_as_proof unit.cnf 'DRAT text' 'step 1: Could not parse proof step: unknown step tag' unit.cnf unit.cnf
   refused folder_as_proof / 'step 1: Error reading proof file: Is a directory (os error 21)' unit.cnf /
-  expect folder_for_hints 2 '' $'cannot open /\nIs a directory (os error 21)' unit.cnf end.proof /
+  wanted folder_for_hints 2 '' $'cannot open /\nIs a directory (os error 21)' unit.cnf end.proof /
   run_cases varisat_check_main
   compare
 }
@@ -209,9 +209,9 @@ case_hint_check() {
   # is its first one, whose clause has a true literal by then
   refuted() {
     local lrat=$1.lrat
-    expect "$1_hints" 0 's VERIFIED UNSAT' '' "$2" "$lrat"
+    wanted "$1_hints" 0 's VERIFIED UNSAT' '' "$2" "$lrat"
     head -n -1 "$work/files/$lrat" > "$work/files/short.$lrat"
-    expect "$1_hints_short" 3 's NOT VERIFIED' '' "$2" "short.$lrat"
+    wanted "$1_hints_short" 3 's NOT VERIFIED' '' "$2" "short.$lrat"
     sed '$s/^\([0-9]* 0 \([0-9]*\) .*\) [0-9]* 0$/\1 \2 0/' "$work/files/$lrat" > "$work/files/changed.$lrat"
     refused "$1_hints_changed" "changed.$lrat" \
       "line $(wc -l < "$work/files/$lrat"): hints end without a conflict" "$2" "changed.$lrat"
@@ -226,15 +226,15 @@ case_hint_check() {
   refuted board6 board6.cnf
   misspelled malformed_formula malformed.cnf 'formula: line 2: bad number' x malformed.cnf par10.lrat
   refused malformed_hints malformed.lrat 'line 1: malformed line' unit.cnf malformed.lrat
-  expect read_plain 0 's VERIFIED UNSAT' '' four.cnf plain.lrat
-  expect read_doubled 0 's VERIFIED UNSAT' '' four.cnf doubled.lrat
-  expect read_plain_ids 0 's VERIFIED UNSAT' '' --ids plain four.cnf plain.lrat
+  wanted read_plain 0 's VERIFIED UNSAT' '' four.cnf plain.lrat
+  wanted read_doubled 0 's VERIFIED UNSAT' '' four.cnf doubled.lrat
+  wanted read_plain_ids 0 's VERIFIED UNSAT' '' --ids plain four.cnf plain.lrat
   begun_as read_other_ids plain.lrat "$binaries" 'line 1: malformed line' --ids=doubled four.cnf plain.lrat
   begun_as read_cut cut.lrat "$binaries" 'line 2: malformed line' four.cnf cut.lrat
   begun_as read_binary_drat binary.drat "$binaries" 'line 1: malformed line' four.cnf binary.drat
   misused no_arguments 'no file is named for CNF' 'hint_check CNF LRAT [--ids WAY] [--quiet] [--verbose]'
-  expect example 0 's VERIFIED UNSAT' '' --example
-  expect help 0 'usage: hint_check CNF LRAT [--ids WAY] [--quiet] [--verbose]
+  wanted example 0 's VERIFIED UNSAT' '' --example
+  wanted help 0 'usage: hint_check CNF LRAT [--ids WAY] [--quiet] [--verbose]
 
 Check lines of hints over a formula, and print the verdict.
 
@@ -264,12 +264,12 @@ examples:
       hint_check formula.cnf proof.lrat
   check a proof in varisat'"'"'s format, and once more by its hints:
       varisat_check formula.cnf proof.bytes proof.lrat && hint_check formula.cnf proof.lrat' '' --help
-  expect version 0 'hint_check 0.4.0 (built from sources)' '' --version
+  wanted version 0 'hint_check 0.4.0 (built from sources)' '' --version
   misused one_argument 'no file is named for LRAT' 'hint_check CNF LRAT [--ids WAY] [--quiet] [--verbose]' unit.cnf
   misused three_arguments 'unexpected argument: more.lrat' 'hint_check CNF LRAT [--ids WAY] [--quiet] [--verbose]' unit.cnf par10.lrat more.lrat
   misused other_ids '--ids takes plain or doubled' 'hint_check CNF LRAT [--ids WAY] [--quiet] [--verbose]' --ids odd unit.cnf par10.lrat
-  expect missing_formula 2 '' $'cannot open absent.cnf\nNo such file or directory (os error 2)' absent.cnf absent.lrat
-  expect missing_hints 2 '' $'cannot open absent.lrat\nNo such file or directory (os error 2)' malformed.cnf absent.lrat
+  wanted missing_formula 2 '' $'cannot open absent.cnf\nNo such file or directory (os error 2)' absent.cnf absent.lrat
+  wanted missing_hints 2 '' $'cannot open absent.lrat\nNo such file or directory (os error 2)' malformed.cnf absent.lrat
   run_cases hint_check_main
   compare
 }
@@ -278,7 +278,7 @@ examples:
 case_lrat_check() {
   begin
   for proof in "${proofs[@]}"; do
-    expect "$proof" 0 's VERIFIED UNSAT' '' "${proof%%_*}.cnf" "$proof.lrat"
+    wanted "$proof" 0 's VERIFIED UNSAT' '' "${proof%%_*}.cnf" "$proof.lrat"
   done
 
   # turned NAME KIND STATUS OUTPUT ERRORS SCRIPT: a run on the solver's proof, changed by a script of sed
@@ -287,7 +287,7 @@ case_lrat_check() {
     if [[ $3 == 1 ]]; then
       refused "$1_$2" "$1.$2.lrat" "$5" "$1.cnf" "$1.$2.lrat"
     else
-      expect "$1_$2" "$3" "$4" "$5" "$1.cnf" "$1.$2.lrat"
+      wanted "$1_$2" "$3" "$4" "$5" "$1.cnf" "$1.$2.lrat"
     fi
   }
 
@@ -297,7 +297,7 @@ case_lrat_check() {
     local name=$1 line=$2 first last unknown='no clause has the id of a hint'
     first=$(sed 's/ .*//;q' "$work/files/$name.lrat")
     last=$(wc -l < "$work/files/$name.lrat")
-    expect "$name" 0 's VERIFIED UNSAT' '' "$name.cnf" "$name.lrat"
+    wanted "$name" 0 's VERIFIED UNSAT' '' "$name.cnf" "$name.lrat"
     # without the first hint, and with the literal true, a clause has two literals that are not false
     turned "$name" hint_dropped 1 '' 'proof: line 1: clause of a hint is not unit' '1s/ 0 [0-9]*/ 0/'
     turned "$name" literal_negated 1 '' 'proof: line 1: clause of a hint is not unit' '1{s/ / -/;s/--//}'
@@ -331,7 +331,7 @@ case_lrat_check() {
     if [[ $status == 1 ]]; then
       refused "$name" "$name.lrat" "$errors" four.cnf "$name.lrat"
     else
-      expect "$name" "$status" "$output" "$errors" four.cnf "$name.lrat"
+      wanted "$name" "$status" "$output" "$errors" four.cnf "$name.lrat"
     fi
   }
 
@@ -348,37 +348,37 @@ case_lrat_check() {
   printf '1 0\nd 1 2 0\n0\n' > "$work/files/drat.lrat"
   printf '5 1 0 1 2 0\n' | gzip -n > "$work/files/compressed.lrat"
   printf '\xef\xbb\xbf5 1 0 1 2 0\n' > "$work/files/mark.lrat"
-  expect nothing 3 's NOT VERIFIED' '' four.cnf nothing.proof
+  wanted nothing 3 's NOT VERIFIED' '' four.cnf nothing.proof
   # the empty clause of a formula refutes it, and nothing of the proof is read
   printf '1 2 0\n0\n' > "$work/files/refuted.cnf"
-  expect refuted_formula 0 's VERIFIED UNSAT' '' refuted.cnf nothing.proof
-  expect refuted_formula_unread 0 's VERIFIED UNSAT' '' refuted.cnf drat.lrat
+  wanted refuted_formula 0 's VERIFIED UNSAT' '' refuted.cnf nothing.proof
+  wanted refuted_formula_unread 0 's VERIFIED UNSAT' '' refuted.cnf drat.lrat
   refused read_malformed malformed.lrat 'proof: line 1: malformed line' four.cnf malformed.lrat
   begun_as read_mark mark.lrat 'text with a byte order mark' 'proof: line 1: malformed line' four.cnf mark.lrat
-  expect read_four 1 '' $'proof: line 1: malformed line\nfour.cnf begins as a formula\narguments in the wrong order?' four.cnf four.cnf
-  expect read_plain 0 's VERIFIED UNSAT' '' four.cnf plain.lrat
-  expect read_doubled 0 's VERIFIED UNSAT' '' four.cnf doubled.lrat
-  expect read_doubled_ids 0 's VERIFIED UNSAT' '' --ids doubled four.cnf doubled.lrat
+  wanted read_four 1 '' $'proof: line 1: malformed line\nfour.cnf begins as a formula\narguments in the wrong order?' four.cnf four.cnf
+  wanted read_plain 0 's VERIFIED UNSAT' '' four.cnf plain.lrat
+  wanted read_doubled 0 's VERIFIED UNSAT' '' four.cnf doubled.lrat
+  wanted read_doubled_ids 0 's VERIFIED UNSAT' '' --ids doubled four.cnf doubled.lrat
   begun_as read_other_ids plain.lrat "$binaries" 'proof: line 1: malformed line' --ids=doubled four.cnf plain.lrat
   begun_as read_binary_drat binary.drat "$binaries" 'proof: line 1: id is taken' four.cnf binary.drat
   begun_as read_drat drat.lrat 'DRAT text' 'proof: line 1: malformed line' four.cnf drat.lrat
   begun_as read_compressed compressed.lrat 'a gzip file' 'proof: line 1: malformed line' four.cnf compressed.lrat
   # a formula may begin as DRAT text does
   misspelled read_no_drat malformed.cnf 'formula: line 2: bad number' x malformed.cnf nothing.proof
-  expect swapped 1 '' $'formula: line 24: bad number\nin par10.lrat\nbad number: d\narguments in the wrong order?' par10.lrat par10.cnf
+  wanted swapped 1 '' $'formula: line 24: bad number\nin par10.lrat\nbad number: d\narguments in the wrong order?' par10.lrat par10.cnf
   misspelled malformed_formula malformed.cnf 'formula: line 2: bad number' x malformed.cnf par10.lrat
   # reads that fail: a folder, and a file of the system's
   refused folder / 'formula: error reading formula: Is a directory (os error 21)' / par10.lrat
   refused folder_as_proof / 'proof: error reading proof: Is a directory (os error 21)' four.cnf /
   refused unreadable_proof /proc/self/mem 'proof: error reading proof: Input/output error (os error 5)' four.cnf /proc/self/mem
   misused no_arguments 'no file is named for CNF' 'lrat_check CNF LRAT [--ids WAY] [--holds FILE] [--receipt FILE] [--stats] [--json] [--quiet] [--verbose]'
-  expect example 0 's VERIFIED UNSAT' '' --example
-  expect version 0 'lrat_check 0.4.0 (built from sources)' '' --version
+  wanted example 0 's VERIFIED UNSAT' '' --example
+  wanted version 0 'lrat_check 0.4.0 (built from sources)' '' --version
   misused one_argument 'no file is named for LRAT' 'lrat_check CNF LRAT [--ids WAY] [--holds FILE] [--receipt FILE] [--stats] [--json] [--quiet] [--verbose]' four.cnf
   misused three_arguments 'unexpected argument: more.lrat' 'lrat_check CNF LRAT [--ids WAY] [--holds FILE] [--receipt FILE] [--stats] [--json] [--quiet] [--verbose]' four.cnf par10.lrat more.lrat
   misused other_ids '--ids takes plain or doubled' 'lrat_check CNF LRAT [--ids WAY] [--holds FILE] [--receipt FILE] [--stats] [--json] [--quiet] [--verbose]' --ids odd four.cnf par10.lrat
-  expect missing_formula 2 '' $'cannot open absent.cnf\nNo such file or directory (os error 2)' absent.cnf absent.lrat
-  expect missing_proof 2 '' $'cannot open absent.lrat\nNo such file or directory (os error 2)' malformed.cnf absent.lrat
+  wanted missing_formula 2 '' $'cannot open absent.cnf\nNo such file or directory (os error 2)' absent.cnf absent.lrat
+  wanted missing_proof 2 '' $'cannot open absent.lrat\nNo such file or directory (os error 2)' malformed.cnf absent.lrat
   run_cases lrat_check_main
   compare
 }
@@ -389,7 +389,7 @@ case_lrat_to_proof() {
   converts() {
     local name=$1 cnf=$2 lrat=$3
     shift 3
-    expect "$name" 0 '' '' "$cnf" "$lrat" "$work/files/$name.converted" "$@"
+    wanted "$name" 0 '' '' "$cnf" "$lrat" "$work/files/$name.converted" "$@"
   }
 
   begin
@@ -405,12 +405,12 @@ case_lrat_to_proof() {
   begun_as read_binary_drat binary.drat "$binaries" 'proof: line 1: id is taken' four.cnf binary.drat "$work/files/refused"
   printf 'c a clause that is only redundant\n2 2 0 -1 0\n' > "$work/files/redundant.lrat"
   printf '2 1 0 7 0\n' > "$work/files/unknown.lrat"
-  expect open 3 '' '' unit.cnf nothing.lrat "$work/files/open.converted"
+  wanted open 3 '' '' unit.cnf nothing.lrat "$work/files/open.converted"
   refused redundant redundant.lrat "proof: line 2: RAT steps can't be converted" unit.cnf redundant.lrat "$work/files/refused"
   refused unknown unknown.lrat 'proof: line 1: no clause has the id of a hint' unit.cnf unknown.lrat "$work/files/refused"
   misspelled malformed_formula malformed.cnf 'formula: line 2: bad number' x malformed.cnf par10.lrat "$work/files/refused"
   refused malformed_proof malformed.lrat 'proof: line 1: malformed line' unit.cnf malformed.lrat "$work/files/refused"
-  expect version 0 'lrat_to_proof 0.4.0 (built from sources)' '' --version
+  wanted version 0 'lrat_to_proof 0.4.0 (built from sources)' '' --version
   convert_call='lrat_to_proof CNF LRAT PROOF [--ids WAY] [--width N]'
   while IFS=: read -r words why; do
     read -ra arguments <<< "$words"
@@ -429,20 +429,20 @@ unit.cnf nothing.lrat refused --width 9 --width=9:--width given twice
 unit.cnf nothing.lrat refused --width 9 9:unexpected argument: 9
 unit.cnf nothing.lrat refused --example:there is no option --example
 END
-  expect missing_formula 2 '' $'cannot open absent.cnf\nNo such file or directory (os error 2)' absent.cnf absent.lrat refused
-  expect missing_proof 2 '' $'cannot open absent.lrat\nNo such file or directory (os error 2)' unit.cnf absent.lrat refused
-  expect missing_folder 2 '' $'cannot open absent/proof\nNo such file or directory (os error 2)' unit.cnf nothing.lrat absent/proof
+  wanted missing_formula 2 '' $'cannot open absent.cnf\nNo such file or directory (os error 2)' absent.cnf absent.lrat refused
+  wanted missing_proof 2 '' $'cannot open absent.lrat\nNo such file or directory (os error 2)' unit.cnf absent.lrat refused
+  wanted missing_folder 2 '' $'cannot open absent/proof\nNo such file or directory (os error 2)' unit.cnf nothing.lrat absent/proof
   run_cases lrat_to_proof_main
   compare
 
   begin
   for lrat in "${lrats[@]}"; do
-    expect "$lrat" 0 's UNSATISFIABLE' '' "${lrat%%_*}.cnf" "$lrat.converted"
+    wanted "$lrat" 0 's UNSATISFIABLE' '' "${lrat%%_*}.cnf" "$lrat.converted"
   done
-  expect narrow 0 's UNSATISFIABLE' '' par10.cnf narrow.converted
-  expect plain 0 's UNSATISFIABLE' '' four.cnf plain.converted
-  expect doubled 0 's UNSATISFIABLE' '' four.cnf doubled.converted
-  expect open 3 's NOT SHOWN' '' unit.cnf open.converted
+  wanted narrow 0 's UNSATISFIABLE' '' par10.cnf narrow.converted
+  wanted plain 0 's UNSATISFIABLE' '' four.cnf plain.converted
+  wanted doubled 0 's UNSATISFIABLE' '' four.cnf doubled.converted
+  wanted open 3 's NOT SHOWN' '' unit.cnf open.converted
   run_cases varisat_check_main
   compare
 }
