@@ -84,6 +84,7 @@ if [[ $is_cadical ]]; then
   place="$work/a place"
   mkdir -p "$place/bin" "$place/lib/cefindrato"
   cp "$top"/tools/{checked,sessions,verified} "$place/bin"
+  cp "$top"/lib/cefindrato/*.py "$place/lib/cefindrato"
   for program in drat_check lrat_check model_check; do
     built=$top/crates/${program}_main/out/${program}_main
     if [[ -x $built ]]; then

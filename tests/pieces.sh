@@ -154,7 +154,7 @@ case_endless_formula() {
   { printf 'c \0\n'; cat eight.cnf; printf 'c'; head -c 100000 /dev/zero; } > zeros.cnf
   says 0 $'piece 1: 3 lemmas, 5 clauses live behind it\npiece 2: 2 lemmas, 7 clauses live behind it' \
     drat_cut zeros.cnf eight.drat zeros. --lemmas 1
-  same zeros.1.drat "$(cat cut.1.drat)"
+  holds zeros.1.drat "$(cat cut.1.drat)"
   says 1 $'formula: line 1: bad number\nin /dev/zero' timeout 60 drat_cut /dev/zero eight.drat endless.
   # endless WHAT TEXT: the text, and NUL bytes without an end behind it
   endless() {

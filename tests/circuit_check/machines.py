@@ -153,7 +153,7 @@ def refuse(runs):
     # no formula is refuted by propagation alone, so that each proof is read
     free = aiger.Circuit(2, outputs=[2])
     names = [runs.put("machine.aig", aiger.write(machine)), runs.put("invariant.aig", aiger.write(free))]
-    for part, place in zip(PARTS, ("initial states", "step", "bad outputs")):
+    for part, place in zip(PARTS, ("initial states", "step", "bad states")):
         runs.put(part + ".proof", b"x\n")
         status, out, err = runs.run("safe", *names, *proofs)
         runs.expect(part, (status, out, err.split(":")[:2]), (1, "", [place, " proof"]))

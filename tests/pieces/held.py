@@ -167,7 +167,7 @@ def try_case(programs, folder, seed, counts):
     if piece.unsure and said == REFUTED:
         # a clause that was kept may bring the conflict,
         return "verified, and some assignment satisfies the formula" if is_satisfiable(piece.formula) else None
-    if any(frozenset(it) in piece.unsure for it in wanted) or (piece.unsure and "redundant" in why):
+    if any(frozenset(it) in piece.unsure for it in wanted) or (piece.unsure and "neither RUP nor" in why):
         # or stand against one that is redundant by a literal
         return None
     counts[form, first is None] += 1
