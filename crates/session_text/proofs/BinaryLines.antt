@@ -5,7 +5,6 @@ use Rattle.std.proofs.lemmas.Bool.{cases_Bool}
 use Rattle.sat_formula.specs.Bytes.{is_blank, is_lf}
 use Rattle.sat_formula.specs.Digits.{ends_word}
 use Rattle.sat_formula.specs.Outcome.{next_line}
-use Rattle.session_text.specs.declared.fault.TextKind.TheVariants as kinds
 use Rattle.session_text.specs.declared.format.Form.TheVariants as forms
 use Rattle.session_text.specs.declared.format.Format.{Format}
 use Rattle.session_text.specs.declared.format.Format.TheVariants as formats
@@ -22,7 +21,7 @@ use Rattle.session_text.specs.Binary.{Did, Holds, Off, On, Part, Letter, BeforeW
 use Rattle.session_text.specs.Content.{Content, no_content}
 use Rattle.session_text.specs.Fields.{due_after, group_said}
 use Rattle.session_text.specs.Numbers.{with_group}
-use Rattle.session_text.specs.Outcomes.{Ended, Faulty, Line, Outcome, with_line}
+use Rattle.session_text.specs.Outcomes.{Faulty, Outcome, with_line}
 use Rattle.session_text.specs.Statuses.{is_spelled, turns, word_of}
 use Rattle.session_text.specs.automaton.Places.{after, begins, group_read, letter_due}
 use Rattle.session_text.specs.automaton.Texts.{outcome_at}

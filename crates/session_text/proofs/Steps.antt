@@ -1,11 +1,8 @@
 -- What one byte leads to.
-use Rattle.std.proofs.Common.{◌≡◌, ℕ, Bool, true, false, cond, List, [], ◌∷◌, refl}
+use Rattle.std.proofs.Common.{◌≡◌, ℕ, List, [], ◌∷◌, refl}
 use Rattle.session_text.specs.declared.fault.TextKind.TheVariants as kinds
-use Rattle.session_text.specs.declared.format.Form.{Form}
-use Rattle.session_text.specs.declared.format.Format.{Format}
 use Rattle.session_text.specs.declared.spot.After.{After}
 use Rattle.session_text.specs.declared.spot.After.TheVariants.{Ends, Gives, Goes, Stops}
-use Rattle.session_text.specs.declared.spot.Place.{Place}
 use Rattle.session_text.specs.declared.spot.Spot.{Spot}
 use Rattle.session_text.specs.Content.{Content, no_content, with_item}
 use Rattle.session_text.specs.Outcomes.{Faulty, Line, Outcome, with_line}

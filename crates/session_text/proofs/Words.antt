@@ -1,5 +1,5 @@
 -- Words, byte after byte and in one piece.
-use Rattle.std.proofs.Common.{◌≡◌, ℕ, zero, suc, ◌+◌, Bool, true, false, cond, List, [], ◌∷◌, length, refl, sym, ap, ◌∙◌, arith, inl, inr}
+use Rattle.std.proofs.Common.{◌≡◌, ℕ, zero, suc, ◌+◌, Bool, true, false, List, [], ◌∷◌, length, refl, sym, ap, ◌∙◌, arith, inl, inr}
 use Rattle.std.specs.Prelude.{◌&&◌, ◌==◌, not, codes, nat_lt, slice_index, Option, None, Some}
 use Rattle.std.specs.List.{list_all}
 use Rattle.std.specs.Str.{bytes_eq}
@@ -12,7 +12,7 @@ use Rattle.session_text.specs.declared.line.Status.{Status}
 use Rattle.session_text.specs.declared.line.Status.TheVariants as statuses
 use Rattle.session_text.specs.declared.fault.TextKind.TheVariants as kinds
 use Rattle.session_text.specs.Fields.{header}
-use Rattle.session_text.specs.Statuses.{is_spelled, turns, word_of}
+use Rattle.session_text.specs.Statuses.{turns, word_of}
 use Rattle.session_text.specs.Texts.{LineSaid, Wrong, after_header, header_said}
 
 pub and_left : (a b : Bool) → (a && b) ≡ true → a ≡ true

@@ -5,7 +5,7 @@
 --     start format      the start of a text
 --     after s b      what a byte does
 --     at_end s      what is wrong with a text that ends here
-use Rattle.std.specs.Prelude.{ℕ, ◌+◌, ◌-◌, ◌*◌, ◌^◌, Bool, true, false, not, ◌&&◌, List, length, slice_index, Option, Some, None, nat_lt, ◌==◌, if◌then◌else◌}
+use Rattle.std.specs.Prelude.{ℕ, ◌+◌, ◌-◌, ◌*◌, ◌^◌, Bool, true, false, not, ◌&&◌, length, slice_index, Option, Some, None, nat_lt, ◌==◌, if◌then◌else◌}
 use Rattle.sat_formula.specs.Bytes.{letter_c, minus_sign, digit_zero, is_blank, is_digit, is_lf}
 use Rattle.sat_formula.specs.Digits.{ends_word}
 use Rattle.sat_formula.specs.Outcome as dimacs
