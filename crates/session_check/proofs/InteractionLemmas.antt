@@ -5,7 +5,7 @@ use Rattle.session_text.specs.declared.line.LineKind.TheVariants.{Answer, Clause
 use Rattle.session_text.specs.declared.line.Status.{Status}
 use Rattle.session_text.specs.declared.line.Status.TheVariants.{Satisfiable, Unknown, Unsatisfiable}
 use Rattle.session_text.specs.Content.{Content}
-use Rattle.session_text.specs.Texts.{Line}
+use Rattle.session_text.specs.Outcomes.{Line}
 use Rattle.session_check.specs.Interactions.{AllShown, Asked, Interaction, IsAnswer, IsShown, answer_to, hear, hear_last, interact, once_more, with_line, with_lines}
 use Rattle.session_check.specs.Progress.{Announces, Answers, Closes, Cores, Hears, IsUnanswered, Models, Pending, Plays, Progress, Stays, Takes, answer_report, answered, asked, ended, pending_after, said, settled, with_report}
 use Rattle.session_check.specs.Runs.{ShowsBut, Told, listed, tell, tell_all}

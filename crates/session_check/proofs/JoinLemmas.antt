@@ -11,7 +11,7 @@ use Rattle.session_text.specs.declared.line.LineKind.TheVariants.{Answer, Clause
 use Rattle.session_text.specs.declared.reader.SessionReader.{SessionReader}
 use Rattle.session_text.specs.Content.{Content, with_lits}
 use Rattle.session_text.specs.NextLine.{Answers, bytes_left, content_read, line_read, spot_of}
-use Rattle.session_text.specs.Texts.{Line}
+use Rattle.session_text.specs.Outcomes.{Line}
 use Rattle.session_check.specs.Interactions.{Interaction, interact, interaction_of, with_line, with_lines}
 use Rattle.session_check.specs.Laws.{ToldIsSaid}
 use Rattle.session_check.specs.Lines.{ArePairs, Begin, BeforeFault, IsPair, Joins, LinesBy, Make, Pair, Precede, Texts, alone, both, heard, is_alike, is_heard, is_told, joined, joined_in, own, proof_in, repeats, told_in}

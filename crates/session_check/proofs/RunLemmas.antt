@@ -7,7 +7,7 @@ use Rattle.sat_output.proofs.Beginnings.{begins_past, begins_whole}
 use Rattle.whole_writes.specs.Beginnings.{AppendsBeginning}
 use Rattle.session_text.specs.declared.line.LineKind.{LineKind}
 use Rattle.session_text.specs.Content.{Content}
-use Rattle.session_text.specs.Texts.{Line}
+use Rattle.session_text.specs.Outcomes.{Line}
 use Rattle.session_check.specs.Counts.{counted, last_line, no_counts}
 use Rattle.session_check.specs.Interactions.{AllShown, Interaction, interaction_of, with_lines}
 use Rattle.session_check.specs.Lines.{Begin, BeforeFault, LinesBy, Make, Texts}

@@ -15,8 +15,11 @@ use Rattle.session_text.specs.declared.reader.SessionReader.{SessionReader}
 use Rattle.session_text.specs.declared.spot.Spot.{Spot}
 use Rattle.session_text.specs.Content.{no_content}
 use Rattle.session_text.specs.NextLine.{Answers, bytes_left, left_to_say, line_read, spot_of}
-use Rattle.session_text.specs.Places.{start}
-use Rattle.session_text.specs.Texts.{Ended, Ending, Faulty, Line, Outcome, outcome_at, outcome_of, with_line}
+use Rattle.session_text.specs.automaton.Places.{start}
+use Rattle.session_text.specs.Outcomes.{Ended, Ending, Faulty, Line, Outcome, with_line}
+use Rattle.session_text.specs.Texts.{outcome_of}
+use Rattle.session_text.specs.automaton.Texts.{outcome_at}
+use Rattle.session_text.proofs.Lines.{are_lines}
 use Rattle.session_check.specs.Lines.{Begin, Make, Precede}
 use Rattle.session_check.specs.NextLine.{AheadOf, At, AtLine, behind}
 use Rattle.session_check.specs.declared.lines.Ahead.{Ahead}
@@ -54,7 +57,7 @@ module _ {R : Type 0} (remaining : R → Known) where
   pub at_start : (format : Format) (r : SessionReader R) (known : Known) → bytes_left remaining r ≡ known → spot_of r ≡ start format → At remaining format r known []
   at_start format r known b s =
       subst (λ k. Leads known k (outcome_of format) (λ m. behind [] (left_to_say r m))) (sym b)
-      (subst (λ (x : Spot). Leads known known (outcome_of format) (λ m. behind [] (outcome_at no_content x m))) (sym s) (leads_as (leads_nil known (outcome_of format)) (λ m. refl)))
+      (subst (λ (x : Spot). Leads known known (outcome_of format) (λ m. behind [] (outcome_at no_content x m))) (sym s) (leads_as (leads_nil known (outcome_of format)) (λ m. sym (are_lines format m))))
 
   -- another line of it stands there, and all else is the same
   pub at_same : (format : Format) (r s : SessionReader R) (known : Known) (ls : List Line) → bytes_left remaining s ≡ bytes_left remaining r → spot_of s ≡ spot_of r → At remaining format r known ls →

@@ -12,7 +12,8 @@ use Rattle.session_text.specs.declared.format.Format.TheVariants.{Icnf, Lidrup}
 use Rattle.session_text.specs.declared.line.LineKind.{LineKind}
 use Rattle.session_text.specs.declared.line.LineKind.TheVariants.{Answer, Clause, Core, Deletion, Failed, Lemma, Model, Query, Several, Trail, Values, Weakening}
 use Rattle.session_text.specs.Content.{with_lits}
-use Rattle.session_text.specs.Texts.{Ended, Faulty, Line, outcome_of}
+use Rattle.session_text.specs.Outcomes.{Ended, Faulty, Line}
+use Rattle.session_text.specs.Texts.{outcome_of}
 use Rattle.session_check.specs.declared.fault.RunFault.{RunFault}
 use Rattle.session_check.specs.declared.fault.RunFault.TheVariants as faults
 

@@ -9,7 +9,8 @@ use Rattle.session_text.specs.declared.format.Format.TheVariants.{Icnf, Lidrup}
 use Rattle.session_text.specs.declared.line.LineKind.{LineKind}
 use Rattle.session_text.specs.declared.reader.SessionReader.{SessionReader}
 use Rattle.session_text.specs.NextLine.{bytes_left, left_to_say, line_read, room_left}
-use Rattle.session_text.specs.Texts.{Line, Outcome, outcome_of, with_line}
+use Rattle.session_text.specs.Outcomes.{Line, Outcome, with_line}
+use Rattle.session_text.specs.Texts.{outcome_of}
 use Rattle.session_check.specs.Lines.{BeforeFault, Joins, LinesBy, Make, Texts, alone, both}
 use Rattle.session_check.specs.declared.fault.RunFault.{RunFault}
 use Rattle.session_check.specs.declared.lines.Ahead.{Ahead}

@@ -12,7 +12,7 @@ use Rattle.session_text.specs.declared.line.LineKind.TheVariants.{Answer, Clause
 use Rattle.session_text.specs.declared.line.Status.{Status}
 use Rattle.session_text.specs.declared.line.Status.TheVariants.{Satisfiable, Unknown, Unsatisfiable}
 use Rattle.session_text.specs.Content.{Content}
-use Rattle.session_text.specs.Texts.{Line}
+use Rattle.session_text.specs.Outcomes.{Line}
 use Rattle.session_check.specs.Interactions.{IsShown, once_more}
 use Rattle.session_check.specs.declared.report.Reason.{Reason}
 use Rattle.session_check.specs.declared.report.Reason.TheVariants as reasons

@@ -5,7 +5,7 @@
 use Rattle.std.specs.Prelude.{◌≡◌, ℕ, List, [], ◌∷◌, ◌++◌, Option, Some, None, Result, Ok, Err}
 use Rattle.std.specs.Io.KnownBytes.{Appends}
 use Rattle.whole_writes.specs.Beginnings.{AppendsBeginning}
-use Rattle.session_text.specs.Texts.{Line}
+use Rattle.session_text.specs.Outcomes.{Line}
 use Rattle.session_check.specs.Counts.{counted, last_line, no_counts}
 use Rattle.session_check.specs.Interactions.{AllShown, Asked, Interaction, interaction_of}
 use Rattle.session_check.specs.Lines.{Begin, BeforeFault, LinesBy, Make, Texts}

@@ -2,7 +2,7 @@
 ghost use Rattle.std.specs.Prelude.{◌≡◌, ◌<◌, ◌≤◌, List, [], None, true, is_none, is_some, IfOk};
 ghost use Rattle.session_text.specs.Content.{content_of};
 ghost use Rattle.session_text.specs.NextLine.{content_read};
-ghost use Rattle.session_text.specs.Texts.{Line};
+ghost use Rattle.session_text.specs.Outcomes.{Line};
 ghost use Rattle.session_check.specs.Lines.{Texts, is_alike, is_heard, is_told};
 
 use crate::fault::{LineCause, RunFault};

@@ -17,8 +17,9 @@ use Rattle.session_text.specs.Content.{Content, no_content}
 use Rattle.session_text.specs.declared.reader.SessionReader.{SessionReader}
 use Rattle.session_text.specs.NextLine.{Answers, bytes_left, left_to_say}
 use Rattle.sat_formula.specs.ReadFault.{fault_of}
-use Rattle.session_text.specs.Reading.{Ends, IsTaken}
-use Rattle.session_text.specs.Texts.{Ended, Ending, Faulty, Off, On, Outcome, Says, Step, ending_at, outcome_at, step, with_line}
+use Rattle.session_text.specs.automaton.Reading.{Ends, IsTaken}
+use Rattle.session_text.specs.Outcomes.{Ended, Ending, Faulty, Outcome, with_line}
+use Rattle.session_text.specs.automaton.Texts.{Off, On, Says, Step, ending_at, outcome_at, step}
 
 -- what a byte did, and the bytes after it
 abbrev goes_on : Step → List ℕ → Outcome

@@ -1,7 +1,10 @@
+pub mod automaton
 pub mod Numbers
 pub mod Content
-pub mod Places
+pub mod Fields
+pub mod Statuses
+pub mod Outcomes
+pub mod Binary
 pub mod Texts
-pub mod Reading
 pub mod NextLine
 pub mod Rows

@@ -11,7 +11,8 @@ use Rattle.session_text.specs.declared.line.LineKind.{LineKind}
 use Rattle.session_text.specs.declared.reader.SessionReader.{SessionReader}
 use Rattle.session_text.specs.declared.spot.Spot.{Spot}
 use Rattle.session_text.specs.Content.{Content, content_of, no_content}
-use Rattle.session_text.specs.Texts.{Ended, Faulty, Line, Outcome, outcome_at, with_line}
+use Rattle.session_text.specs.Outcomes.{Ended, Faulty, Line, Outcome, with_line}
+use Rattle.session_text.specs.automaton.Texts.{outcome_at}
 
 module _ {R : Type 0} where
   -- the bytes that are still to come, where the reader beneath tells them

@@ -5,7 +5,8 @@ use Rattle.session_text.specs.declared.format.Format.TheVariants.{Icnf, Lidrup}
 use Rattle.session_text.specs.declared.line.LineKind.{LineKind}
 use Rattle.session_text.specs.declared.line.LineKind.TheVariants.{Answer, Clause, Core, Deletion, Failed, Lemma, Model, Query, Several, Trail, Values, Weakening}
 use Rattle.session_text.specs.declared.line.Status.TheVariants.{Satisfiable, Unknown, Unsatisfiable}
-use Rattle.session_text.specs.Texts.{Ended, Faulty, Line, outcome_of}
+use Rattle.session_text.specs.Outcomes.{Ended, Faulty, Line}
+use Rattle.session_text.specs.Texts.{outcome_of}
 
 -- a line of this kind, with this id, these literals and these ids
 abbrev line : LineKind → ℕ → List ℕ → List ℕ → Line
@@ -70,7 +71,8 @@ pub record TextRows : Type 0 where
       ≡ (line Query 0 [] [] ∷ [], Faulty 3 Malformed)
   pub no_last_zero : outcome_of Lidrup (codes "p lidrup\nq 1\n0\n") ≡ ([], Faulty 2 Malformed)
   pub number_after_the_end : outcome_of Lidrup (codes "p lidrup\nq 1 0 0\n") ≡ ([], Faulty 2 Malformed)
-  pub leading_zero : outcome_of Lidrup (codes "p lidrup\nq 01 0\n") ≡ ([], Faulty 2 Malformed)
+  pub leading_zeros : outcome_of Lidrup (codes "p lidrup\nq 01 -002 00\n")
+      ≡ (line Query 0 (0 ∷ 3 ∷ []) [] ∷ [], Ended)
   pub minus_zero : outcome_of Lidrup (codes "p lidrup\nq 1 -0\n") ≡ ([], Faulty 2 Malformed)
   pub no_blank : outcome_of Lidrup (codes "p lidrup\nq 0\nq1 0\n")
       ≡ (line Query 0 [] [] ∷ [], Faulty 3 Malformed)
@@ -84,7 +86,12 @@ pub record TextRows : Type 0 where
   pub large_id : outcome_of Lidrup (codes "p lidrup\ni 1152921504606846976 0\n")
       ≡ ([], Faulty 2 NumberTooLarge)
   pub cut_off : outcome_of Lidrup (codes "p lidrup\nq 1 0") ≡ ([], Faulty 2 Unfinished)
-  pub cut_comment : outcome_of Lidrup (codes "p lidrup\nc") ≡ ([], Faulty 2 Unfinished)
+  pub cut_number : outcome_of Lidrup (codes "p lidrup\nq 1") ≡ ([], Faulty 2 Malformed)
+  pub cut_header : outcome_of Icnf (codes "p icnf") ≡ ([], Faulty 1 Unfinished)
+  pub cut_comment : outcome_of Lidrup (codes "p lidrup\nc") ≡ ([], Ended)
+  pub cut_blanks : outcome_of Lidrup (codes "p lidrup\n ") ≡ ([], Ended)
+  pub cut_comment_alone : outcome_of Icnf (codes "c") ≡ ([], Faulty 1 NoHeader)
+  pub cut_letter : outcome_of Lidrup (codes "q") ≡ ([], Faulty 1 Unfinished)
   -- of interactions
   pub told : outcome_of Icnf (codes "p icnf\ni 1 -2 0\nq -1 0\ns SATISFIABLE\nv -1 0\nm 2 0\n")
       ≡ (

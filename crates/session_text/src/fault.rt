@@ -9,13 +9,13 @@ pub enum TextKind {
     /// or there is none.
     #[error("no header")]
     NoHeader,
-    /// A byte that the line does not have here.
+    /// A byte that the line does not have here, or its end.
     #[error("malformed line")]
     Malformed,
     /// An id or a hint of 2^60 or more, or a variable above `Var::MAX_COUNT`.
     #[error("number too large")]
     NumberTooLarge,
-    /// The text ends within a line: it has no line end.
+    /// The text ends within a line that would be right with a line end.
     #[error("unfinished line")]
     Unfinished,
 }

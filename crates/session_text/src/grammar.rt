@@ -1,6 +1,7 @@
 //! The grammar of a session, a byte after the other.
 ghost use Rattle.std.specs.Prelude.{◌≡◌};
-ghost use Rattle.session_text.specs.Places.{after, after_letter, after_s, before_word, between, binary_start, done, first_digit, group_read, in_comment, in_digits, in_group, in_header, in_word, is_spelled, last_read, letter_of, letter_place, line_start, number_read, start_of, turns, word_goes, word_of};
+ghost use Rattle.session_text.specs.Statuses.{is_spelled, turns, word_of};
+ghost use Rattle.session_text.specs.automaton.Places.{after, after_letter, after_s, before_word, between, binary_start, done, first_digit, group_read, in_comment, in_digits, in_group, in_header, in_word, last_read, letter_of, letter_place, line_start, number_read, start_of, word_goes};
 
 use crate::fault::TextKind;
 use crate::format::Form;
@@ -25,7 +26,7 @@ impl Status {
 impl Spot {
     /// Returns what the next byte does.
     #[inline(always)]
-    #[tactic(auto, unfolding(crate::specs::Places::after))]
+    #[tactic(auto, unfolding(crate::specs::automaton::Places::after))]
     pub(crate) fn after(self, byte: u8) -> After
         ensures { result ≡ after self byte }
     {
@@ -265,12 +266,12 @@ impl Spot {
         }
     }
 
-    /// In digits of this value, or after them. No digit follows a 0 that is the first.
+    /// In digits of this value, or after them.
     #[inline(always)]
     fn in_digits(self, due: Due, negative: bool, value: u64, byte: u8) -> After
         ensures { result ≡ in_digits self due negative value byte }
     {
-        if is_digit(byte) && value > 0 {
+        if is_digit(byte) {
             After::Goes(self.moved(Place::Digits(due, negative, with_digit(value, byte))))
         } else if is_blank(byte) {
             self.number_read(number_said(due, negative, value))

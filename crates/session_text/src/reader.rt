@@ -1,8 +1,8 @@
 //! Lines from a reader's bytes.
 ghost use Rattle.std.specs.Prelude.{◌≡◌, ◌-◌, ◌^◌, ◌≤◌};
 ghost use Rattle.session_text.specs.Content.{content_of, with_lits};
-ghost use Rattle.session_text.specs.Reading.{Ends, IsTaken};
-ghost use Rattle.session_text.specs.Texts.{ending_at, step};
+ghost use Rattle.session_text.specs.automaton.Reading.{Ends, IsTaken};
+ghost use Rattle.session_text.specs.automaton.Texts.{ending_at, step};
 
 use crate::fault::{SessionTextFault, TextKind};
 use crate::format::Format;
@@ -22,8 +22,8 @@ use std::mem::swap;
 /// each up to a 0. In LIDRUP: `i ID LITS 0`, `l ID LITS 0 HINTS 0`, `d IDS 0`, `w IDS 0`,
 /// `r IDS 0`, `q LITS 0`, `m LITS 0`, `u LITS 0 HINTS 0`, `e LITS 0`. In ICNF: `i`, `q`, `v`, `m`,
 /// `f` or `u`, each with `LITS 0`. Each line ends with an LF. Lines of blanks and those that begin
-/// with `c` are passed over. Ids, and the numbers of `U`, go from 1 to 2^60 - 1, variables up to
-/// `Var::MAX_COUNT`; numbers have no leading zeros.
+/// with `c`, which need none, are passed over. Ids, and the numbers of `U`, go from 1 to 2^60 - 1,
+/// variables up to `Var::MAX_COUNT`.
 ///
 /// LIDRUP may be binary behind its header: then a line is its letter and lists of numbers as in
 /// binary DRAT, where ids, hints and the number of `U` are encoded as themselves, or an `s` with
@@ -40,7 +40,7 @@ pub struct SessionReader<R> {
 
 impl<R: Read> SessionReader<R> {
     ghost use Rattle.session_text.specs.NextLine.{Answers, bytes_left, content_read, line_number, room_left, spot_of};
-    ghost use Rattle.session_text.specs.Places.{start};
+    ghost use Rattle.session_text.specs.automaton.Places.{start};
 
     /// Returns a reader at the start of a text. It takes no memory and reads nothing yet.
     pub fn new(alloc: Global, inner: R, format: Format) -> SessionReader<R>

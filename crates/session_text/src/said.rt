@@ -1,6 +1,7 @@
 //! What letters and numbers say in a line.
 ghost use Rattle.std.specs.Prelude.{◌≡◌};
-ghost use Rattle.session_text.specs.Places.{count_read, due_after, due_in_icnf, due_in_lidrup, group_said, header, id_read, ids_said, lits_said, needs_header, number_said};
+ghost use Rattle.session_text.specs.Fields.{count_read, group_said, header, id_read, ids_said, lits_said, needs_header, number_said};
+ghost use Rattle.session_text.specs.automaton.Places.{due_in_icnf, due_in_lidrup, letter_due};
 
 use crate::fault::TextKind;
 use crate::format::Format;
@@ -44,7 +45,7 @@ pub(crate) fn needs_header(format: Format, byte: u8) -> bool
 
 /// Returns what is due after the letter of a line, if the byte is one.
 pub(crate) fn due_after(format: Format, letter: u8) -> Option<Due>
-    ensures { result ≡ due_after format letter }
+    ensures { result ≡ letter_due format letter }
 {
     match format {
         Format::Icnf => due_in_icnf(letter),

@@ -1,6 +1,6 @@
 //! Where the reading of a text is.
 ghost use Rattle.std.specs.Prelude.{◌≡◌};
-ghost use Rattle.session_text.specs.Places.{at_end, ends, form_at_start, in_lines, is_binary, is_untold, moved, next_line, start, told};
+ghost use Rattle.session_text.specs.automaton.Places.{at_end, between_lines, ends, form_at_start, in_lines, is_binary, is_untold, moved, next_line, start, told, unended, within};
 
 use crate::fault::TextKind;
 use crate::format::{Form, Format};
@@ -146,9 +146,33 @@ impl Spot {
         ensures { result ≡ at_end self }
     {
         match self.place {
-            Place::LineStart if self.headed => None,
-            Place::LineStart => Some(TextKind::NoHeader),
-            _ => Some(TextKind::Unfinished),
+            Place::LineStart | Place::Comment => self.between_lines(),
+            _ => Some(self.within()),
+        }
+    }
+
+    /// Returns what is wrong with a text that ends where no line is open, if something is.
+    fn between_lines(self) -> Option<TextKind>
+        ensures { result ≡ between_lines self }
+    {
+        if self.headed {
+            None
+        } else {
+            Some(TextKind::NoHeader)
+        }
+    }
+
+    /// Returns what is wrong with a text that ends within a line: the fault that an LF would have
+    /// shown, if there is one.
+    fn within(self) -> TextKind
+        ensures { result ≡ within self }
+    {
+        if self.is_binary() {
+            return TextKind::Unfinished;
+        }
+        match self.after(b'\n') {
+            After::Stops(kind) => kind,
+            _ => TextKind::Unfinished,
         }
     }
 }

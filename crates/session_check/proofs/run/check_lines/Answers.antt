@@ -1,6 +1,6 @@
 use Rattle.std.proofs.Common.{List, subst, sym}
 use Rattle.session_text.specs.NextLine.{content_read}
-use Rattle.session_text.specs.Texts.{Line}
+use Rattle.session_text.specs.Outcomes.{Line}
 use Rattle.sat_formula.proofs.Exits.{exits}
 use Rattle.session_check.specs.NextLine.{Reads}
 use Rattle.session_check.specs.Progress.{progress_of}

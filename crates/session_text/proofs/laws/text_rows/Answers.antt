@@ -1,7 +1,7 @@
-use Rattle.session_text.specs.Places.{after}
-use Rattle.session_text.specs.Texts.{outcome_at}
+use Rattle.session_text.specs.Binary.{binary_from}
+use Rattle.session_text.specs.Texts.{lines_from, numbers_from}
 use Rattle.session_text.proofs.laws.text_rows.Goals as goal
 
 pub returns : goal.returns
-unfolding outcome_at after
+unfolding binary_from lines_from numbers_from
 returns c = assumption

@@ -2,7 +2,7 @@ use Rattle.std.proofs.Common.{rules}
 use Rattle.drat_text.specs.Taking.{unread_bytes}
 use Rattle.session_text.specs.Content.{content_of}
 use Rattle.session_text.specs.NextLine.{Answers}
-use Rattle.session_text.specs.Texts.{ending_at}
+use Rattle.session_text.specs.automaton.Texts.{ending_at}
 use Rattle.sat_formula.proofs.Exits.{exits}
 use Rattle.session_text.proofs.ReadingLemmas.{answers_end, answers_fault, byte_fails, byte_goes, byte_says, ends_by, text_ends}
 use Rattle.session_text.proofs.reader.SessionReader.next_line.Goals as goal

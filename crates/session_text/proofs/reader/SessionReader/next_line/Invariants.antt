@@ -1,7 +1,7 @@
 use Rattle.std.proofs.Common.{◌≤◌}
 use Rattle.drat_text.specs.Taking.{Leads, room_in, unread_bytes}
 use Rattle.session_text.specs.Content.{content_of, no_content}
-use Rattle.session_text.specs.Texts.{outcome_at}
+use Rattle.session_text.specs.automaton.Texts.{outcome_at}
 use Rattle.session_text.proofs.reader.SessionReader.next_line.Given as goal
 
 abbrev pub invariant-bytes : goal.invariant-bytes

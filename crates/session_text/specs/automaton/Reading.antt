@@ -9,7 +9,8 @@ use Rattle.sat_formula.specs.declared.read_fault.UntakenByte.TheVariants as unta
 use Rattle.session_text.specs.declared.line.LineKind.{LineKind}
 use Rattle.session_text.specs.declared.spot.Spot.{Spot}
 use Rattle.session_text.specs.Content.{Content}
-use Rattle.session_text.specs.Texts.{Ended, Ending, Faulty, Off, On, Says, Step}
+use Rattle.session_text.specs.Outcomes.{Ended, Ending, Faulty}
+use Rattle.session_text.specs.automaton.Texts.{Off, On, Says, Step}
 
 -- what a byte did: what stands in the line after it and where the reading is, or why it was not taken
 abbrev pub IsTaken : Step → Content → Spot → Result (Option LineKind) (UntakenByte LineNumber TextKind) → Type 0

@@ -5,7 +5,7 @@
 --     start format      the start of a text
 --     after s b      what a byte does
 --     at_end s      what is wrong with a text that ends here
-use Rattle.std.specs.Prelude.{ℕ, ◌+◌, ◌-◌, ◌*◌, ◌^◌, Bool, true, false, not, ◌&&◌, List, length, slice_index, codes, Option, Some, None, Result, Ok, Err, nat_lt, ◌==◌, if◌then◌else◌}
+use Rattle.std.specs.Prelude.{ℕ, ◌+◌, ◌-◌, ◌*◌, ◌^◌, Bool, true, false, not, ◌&&◌, length, slice_index, Option, Some, None, nat_lt, ◌==◌, if◌then◌else◌}
 use Rattle.sat_formula.specs.Bytes.{letter_c, minus_sign, digit_zero, is_blank, is_digit, is_lf}
 use Rattle.sat_formula.specs.Digits.{ends_word}
 use Rattle.sat_formula.specs.Outcome as dimacs
@@ -17,9 +17,8 @@ use Rattle.session_text.specs.declared.format.Format.{Format}
 use Rattle.session_text.specs.declared.format.Format.TheVariants.{Icnf, Lidrup}
 use Rattle.session_text.specs.declared.said.Said.{Said}
 use Rattle.session_text.specs.declared.said.Said.TheVariants.{Last, Next, Turns, Wrong}
-use Rattle.session_text.specs.declared.line.Item.TheVariants as items
 use Rattle.session_text.specs.declared.line.LineKind.{LineKind}
-use Rattle.session_text.specs.declared.line.LineKind.TheVariants.{Answer, Clause, Core, Deletion, Failed, Lemma, Model, Query, Several, Trail, Values, Weakening}
+use Rattle.session_text.specs.declared.line.LineKind.TheVariants.{Answer, Clause, Core, Deletion, Failed, Lemma, Model, Query, Trail, Values, Weakening}
 use Rattle.session_text.specs.declared.line.Status.{Status}
 use Rattle.session_text.specs.declared.line.Status.TheVariants.{Satisfiable, Unknown, Unsatisfiable}
 use Rattle.session_text.specs.declared.spot.After.{After}
@@ -29,8 +28,9 @@ use Rattle.session_text.specs.declared.spot.Due.TheVariants as dues
 use Rattle.session_text.specs.declared.spot.Place.{Place}
 use Rattle.session_text.specs.declared.spot.Place.TheVariants.{AfterS, BeforeWord, Between, Comment, Digits, Done, Group, Header, Letter, LineStart, Sign, Word}
 use Rattle.session_text.specs.declared.spot.Spot.{Spot}
-use Rattle.session_text.specs.Content.{has_hints}
-use Rattle.session_text.specs.Numbers.{code_said, id_said, lit_said, with_digit, with_group}
+use Rattle.session_text.specs.Fields.{group_said, header, needs_header, number_said}
+use Rattle.session_text.specs.Numbers.{with_digit, with_group}
+use Rattle.session_text.specs.Statuses.{is_spelled, turns, word_of}
 
 -- an interaction is text; the first line of a proof tells
 abbrev pub form_at_start : Format → Form
@@ -92,23 +92,6 @@ done s kind b =
 
 -- ---- statuses
 
--- the word of a status
-abbrev pub word_of : Status → List ℕ
-word_of Satisfiable = codes "SATISFIABLE"
-word_of Unsatisfiable = codes "UNSATISFIABLE"
-word_of Unknown = codes "UNKNOWN"
-
--- the byte is the next one of the word, of which this many were read
-abbrev pub is_spelled : Status → ℕ → ℕ → Bool
-is_spelled status read b =
-    nat_lt read (length (word_of status)) && (slice_index (word_of status) read == b)
-
--- `UN` was read, and the byte is a `K`: the word is `UNKNOWN`
-abbrev pub turns : Status → ℕ → ℕ → Bool
-turns Satisfiable read b = false
-turns Unsatisfiable read b = read == 2 && (b == 75)
-turns Unknown read b = false
-
 -- after this many bytes of a word; in binary the last of them ends the line
 abbrev pub word_goes : Spot → Status → ℕ → After
 word_goes s status read = if is_binary s && (read == length (word_of status))
@@ -137,37 +120,6 @@ after_s s b =
 
 -- ---- numbers
 
--- among the literals of a line
-abbrev pub lits_said : LineKind → Result (Option ℕ) TextKind → Said
-lits_said kind (Ok (Some lit)) = Next (items.Lit lit) (dues.Lit kind)
-lits_said kind (Ok None) = if has_hints kind then Turns (dues.Hint kind) else Last kind
-lits_said kind (Err wrong) = Wrong wrong
-
--- among its ids
-abbrev pub ids_said : LineKind → Result (Option ℕ) TextKind → Said
-ids_said kind (Ok (Some i)) = Next (items.Hint i) (dues.Hint kind)
-ids_said kind (Ok None) = Last kind
-ids_said kind (Err wrong) = Wrong wrong
-
--- as the id of its clause
-abbrev pub id_read : LineKind → Result (Option ℕ) TextKind → Said
-id_read kind (Ok (Some i)) = Next (items.Id i) (dues.Lit kind)
-id_read kind (Ok None) = Wrong Malformed
-id_read kind (Err wrong) = Wrong wrong
-
--- as how many cores follow
-abbrev pub count_read : Result (Option ℕ) TextKind → Said
-count_read (Ok (Some n)) = Last (Several n)
-count_read (Ok None) = Wrong Malformed
-count_read (Err wrong) = Wrong wrong
-
--- a number of this value, after a `-` or not
-abbrev pub number_said : Due → Bool → ℕ → Said
-number_said (dues.Lit kind) negative v = lits_said kind (lit_said negative v)
-number_said (dues.Hint kind) negative v = ids_said kind (id_said negative v)
-number_said (dues.Id kind) negative v = id_read kind (id_said negative v)
-number_said dues.Count negative v = count_read (id_said negative v)
-
 -- it stands before a blank
 abbrev pub number_read : Spot → Said → After
 number_read s (Next item due) = Gives item (moved s (Between due))
@@ -182,10 +134,10 @@ last_read s (Turns due) = Stops Malformed
 last_read s (Last kind) = ends s (Some kind)
 last_read s (Wrong wrong) = Stops wrong
 
--- a byte in digits or after them; no digit follows a 0 that is the first
+-- a byte in digits or after them
 abbrev pub in_digits : Spot → Due → Bool → ℕ → ℕ → After
 in_digits s due negative v b =
-    if is_digit b && nat_lt 0 v then Goes (moved s (Digits due negative (with_digit v b)))
+    if is_digit b then Goes (moved s (Digits due negative (with_digit v b)))
     else (if is_blank b then number_read s (number_said due negative v)
     else (if is_lf b then last_read s (number_said due negative v) else Stops Malformed))
 
@@ -201,13 +153,6 @@ between s due b =
     else (if b == minus_sign then Goes (moved s (Sign due)) else first_digit s due false b)
 
 -- ---- binary numbers
-
--- a number of this value
-abbrev pub group_said : Due → ℕ → Said
-group_said (dues.Lit kind) v = lits_said kind (code_said v)
-group_said (dues.Hint kind) v = ids_said kind (id_said false v)
-group_said (dues.Id kind) v = id_read kind (id_said false v)
-group_said dues.Count v = count_read (id_said false v)
 
 -- after it
 abbrev pub group_read : Spot → Said → After
@@ -250,9 +195,9 @@ due_in_lidrup b =
     else (if b == 101 then Some (dues.Lit Trail) else None)))))))))
 
 -- of a text
-abbrev pub due_after : Format → ℕ → Option Due
-due_after Icnf b = due_in_icnf b
-due_after Lidrup b = due_in_lidrup b
+abbrev pub letter_due : Format → ℕ → Option Due
+letter_due Icnf b = due_in_icnf b
+letter_due Lidrup b = due_in_lidrup b
 
 -- the byte after the letter
 abbrev pub after_letter : Spot → Due → ℕ → After
@@ -263,11 +208,6 @@ after_letter s due b =
 -- the place after the letter
 abbrev pub letter_place : Spot → Due → Place
 letter_place s due = if is_binary s then Group due 0 1 else Letter due
-
--- the header
-abbrev pub header : Format → List ℕ
-header Icnf = codes "p icnf"
-header Lidrup = codes "p lidrup"
 
 -- a byte of the header, of which this many were read, or after it
 abbrev pub in_header : Spot → ℕ → ℕ → After
@@ -288,12 +228,7 @@ begins s None = Stops Malformed
 
 -- the letter of a line, or the `s` of a status
 abbrev pub letter_of : Spot → ℕ → After
-letter_of s b = if b == 115 then Goes (moved s AfterS) else begins s (due_after s.format b)
-
--- a text that begins with this byte needs a header
-abbrev pub needs_header : Format → ℕ → Bool
-needs_header Icnf b = true
-needs_header Lidrup b = b == 112
+letter_of s b = if b == 115 then Goes (moved s AfterS) else begins s (letter_due s.format b)
 
 -- the first byte of the header, or of a line
 abbrev pub start_of : Spot → ℕ → After
@@ -331,21 +266,36 @@ after_at (Done kind) s b = done s kind b
 unfoldable pub after : Spot → ℕ → After
 after s b = after_at s.place s b
 
+-- what is wrong with a line that ends so, but without an LF
+abbrev pub unended : After → TextKind
+unended (Goes s) = Unfinished
+unended (Gives item s) = Unfinished
+unended (Ends kind s) = Unfinished
+unended (Stops kind) = kind
+
+-- what is wrong with a text that ends within a line
+abbrev pub within : Spot → TextKind
+within s = if is_binary s then Unfinished else unended (after s 10)
+
+-- what is wrong with a text that ends where no line is open
+abbrev pub between_lines : Spot → Option TextKind
+between_lines s = if s.headed then None else Some NoHeader
+
 -- what is wrong with a text that ends at this place
-abbrev pub at_end_in : Place → Bool → Option TextKind
-at_end_in LineStart headed = if headed then None else Some NoHeader
-at_end_in Comment headed = Some Unfinished
-at_end_in (Header read) headed = Some Unfinished
-at_end_in (Letter due) headed = Some Unfinished
-at_end_in (Between due) headed = Some Unfinished
-at_end_in (Sign due) headed = Some Unfinished
-at_end_in (Digits due negative v) headed = Some Unfinished
-at_end_in (Group due v weight) headed = Some Unfinished
-at_end_in AfterS headed = Some Unfinished
-at_end_in BeforeWord headed = Some Unfinished
-at_end_in (Word status read) headed = Some Unfinished
-at_end_in (Done kind) headed = Some Unfinished
+abbrev pub at_end_in : Place → Spot → Option TextKind
+at_end_in LineStart s = between_lines s
+at_end_in Comment s = between_lines s
+at_end_in (Header read) s = Some (within s)
+at_end_in (Letter due) s = Some (within s)
+at_end_in (Between due) s = Some (within s)
+at_end_in (Sign due) s = Some (within s)
+at_end_in (Digits due negative v) s = Some (within s)
+at_end_in (Group due v weight) s = Some (within s)
+at_end_in AfterS s = Some (within s)
+at_end_in BeforeWord s = Some (within s)
+at_end_in (Word status read) s = Some (within s)
+at_end_in (Done kind) s = Some (within s)
 
 -- the same at a spot
 abbrev pub at_end : Spot → Option TextKind
-at_end s = at_end_in s.place s.headed
+at_end s = at_end_in s.place s
