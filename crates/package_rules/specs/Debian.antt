@@ -1,7 +1,7 @@
 -- Versions of Debian packages (deb-version(7)), and Debian's rules.
 --     compare_versions v w      by epoch, then upstream version, then revision
 --     debian      a feature with no version meets needs with no bound alone, and one version of a name is installed
-use Rattle.std.specs.Prelude.{ℕ, ◌+◌, ◌*◌, ◌-◌, Bool, true, false, if◌then◌else◌, not, ◌&&◌, ◌||◌, nat_eq, nat_lt, nat_le, List, [], ◌∷◌}
+use Rattle.std.specs.Prelude.{ℕ, ◌+◌, ◌*◌, ◌-◌, Bool, true, false, if◌then◌else◌, not, ◌&&◌, ◌||◌, nat_eq, nat_lt, nat_le, List, [], ◌∷◌, Option, Some, None}
 use Rattle.std.specs.List.{list_any}
 use Rattle.std.specs.Ordering.{nat_cmp, ordering_reverse, ordering_then}
 use Rattle.std.specs.declared.cmp.Ordering.{Ordering}
@@ -20,12 +20,13 @@ is_letter c = (nat_le 65 c && nat_lt c 91) || (nat_le 97 c && nat_lt c 123)
 abbrev pub rank : ℕ → ℕ
 rank c = if nat_eq c 126 then 0 else (if is_letter c then c + 2 else c + 130)
 
--- a text as numbers: ranks of what is no digit, 1 for their end, the number of the digits behind, and so on
-abbrev pub ranks : Bool → ℕ → List ℕ → List ℕ
-ranks true n [] = n ∷ []
-ranks false n [] = []
-ranks true n (c ∷ cs) = if is_digit c then ranks true (10 * n + (c - 48)) cs else n ∷ rank c ∷ ranks false 0 cs
-ranks false n (c ∷ cs) = if is_digit c then 1 ∷ ranks true (c - 48) cs else rank c ∷ ranks false 0 cs
+-- a text as numbers: ranks of what is no digit, 1 for their end, the number of the digits behind, and so on; the first
+-- argument is the number of the digits so far, if the last byte was one
+abbrev pub ranks : Option ℕ → List ℕ → List ℕ
+ranks None [] = []
+ranks (Some n) [] = n ∷ []
+ranks None (c ∷ cs) = if is_digit c then 1 ∷ ranks (Some (c - 48)) cs else rank c ∷ ranks None cs
+ranks (Some n) (c ∷ cs) = if is_digit c then ranks (Some (10 * n + (c - 48))) cs else n ∷ rank c ∷ ranks None cs
 
 -- the first difference decides; the shorter one goes on with no digits and nothing else: 1, 0, 1, 0 ..
 abbrev pub against_rest : Bool → List ℕ → Ordering
@@ -40,7 +41,7 @@ compare_ranks number (x ∷ xs) (y ∷ ys) = ordering_then (nat_cmp x y) (compar
 
 -- two parts of versions
 abbrev pub compare_parts : List ℕ → List ℕ → Ordering
-compare_parts v w = compare_ranks false (ranks false 0 v) (ranks false 0 w)
+compare_parts v w = compare_ranks false (ranks None v) (ranks None w)
 
 -- a text has a colon
 abbrev pub has_colon : List ℕ → Bool
