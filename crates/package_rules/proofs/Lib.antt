@@ -1,0 +1,4 @@
+pub mod LookUp
+pub mod Models
+pub mod Refuted
+pub mod RowsFacts

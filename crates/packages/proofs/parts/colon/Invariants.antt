@@ -1,0 +1,8 @@
+use Rattle.std.proofs.Common.{◌≡◌, ◌≤◌, ◌++◌, None, false, nat_eq, length, drop}
+use Rattle.std.specs.List.{position_from}
+use Rattle.package_rules.specs.Debian.{against_rest, compare_ranks, ranks}
+use Rattle.packages.specs.Versions.{last_hyphen}
+use Rattle.packages.proofs.parts.colon.Given as goal
+
+abbrev pub invariant-loop-place : goal.invariant-loop-place
+invariant-loop-place l = position_from (nat_eq 58) 0 l.text ≡ position_from (nat_eq 58) l.place (drop l.place l.text)

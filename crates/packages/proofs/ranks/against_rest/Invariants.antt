@@ -1,0 +1,8 @@
+use Rattle.std.proofs.Common.{◌≡◌, ◌≤◌, ◌++◌, None, false, nat_eq, length, drop}
+use Rattle.std.specs.List.{position_from}
+use Rattle.package_rules.specs.Debian.{against_rest, compare_ranks, ranks}
+use Rattle.packages.specs.Versions.{last_hyphen}
+use Rattle.packages.proofs.ranks.against_rest.Given as goal
+
+abbrev pub invariant-loop-rank : goal.invariant-loop-rank
+invariant-loop-rank l = against_rest l.number l.rest ≡ against_rest l.is_number (drop l.rank-index l.rest)
