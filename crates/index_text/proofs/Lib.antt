@@ -1,0 +1,5 @@
+pub mod ClassLemmas
+pub mod EntryLemmas
+pub mod ListLemmas
+pub mod RowsFacts
+pub mod StanzaLemmas

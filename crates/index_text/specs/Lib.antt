@@ -1,0 +1,10 @@
+pub mod Classes
+pub mod Entries
+pub mod Fields
+pub mod Lists
+pub mod Reading
+pub mod Relations
+pub mod Rows
+pub mod Stanzas
+pub mod Taking
+pub mod Versions
