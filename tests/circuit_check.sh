@@ -60,6 +60,22 @@ case_cut_off() {
   fi
 }
 
+# Nothing is claimed of circuits without outputs.
+case_no_outputs() {
+  printf 'aig 0 0 0 0 0\n' > none.aig
+  echo 's SATISFIABLE' > answer
+  for claim in 'never none.aig' 'same none.aig none.aig'; do
+    for option in '--proof /dev/null' '--answer answer' '--formula formula'; do
+      status=0
+      # shellcheck disable=SC2086 # several words
+      "$check" $claim $option > said 2> err || status=$?
+      if [[ $status$(cat said err) != '1the circuits have no outputs' || -e formula ]]; then
+        fault "$claim $option: status $status, $(cat said err)"
+      fi
+    done
+  done
+}
+
 # An answer is not a proof, and of a machine there is none; circuits that are compared have as many inputs and outputs.
 case_answers() {
   printf 's SATISFIABLE\nv 2 3 0\n' > answer

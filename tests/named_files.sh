@@ -186,7 +186,7 @@ case_closed_input() {
 case_links() {
   ln -sf f soft_f
   ln -sf absent nowhere
-  printf 'aig 0 0 0 0 0\n' > ./-
+  printf 'aig 0 0 0 1 0\n0\n' > ./-
   printf '0' > zero
   wants 0 's VERIFIED UNSAT' '' "$lrat_check" soft_f l
   for name in nowhere ''; do

@@ -103,6 +103,8 @@ class Runs:
             return
         if c.latches or c.bad or c.constraints:
             self.expect(data, (status, err), (1, "a circuit with latches, bad state properties or invariant constraints\n"))
+        elif not c.outputs:
+            self.expect(data, (status, err), (1, "the circuits have no outputs\n"))
         else:
             self.formula(data, status, self.path("text.cnf"), formulas.never(c))
 

@@ -7,6 +7,7 @@ use Rattle.sat_rules.specs.Clauses.{lit_true}
 use Rattle.circuit_rules.specs.Circuits.{simulated}
 use Rattle.circuit_rules.specs.Checks.{any_output}
 use Rattle.circuit_text.specs.declared.circuit.Circuit as read
+use Rattle.circuit_clauses.specs.Causes.{has_outputs}
 use Rattle.circuit_clauses.specs.Formulas.{gates_in}
 use Rattle.circuit_clauses.specs.Machines.{machine_in}
 use Rattle.circuit_clauses.proofs.CauseLemmas.{past}
@@ -21,7 +22,9 @@ use Rattle.circuit_answers.specs.Simulations.{assigned, input_by, outputs_for}
 -- ---- where there is no cause
 
 pub few_inputs : (c : read.Circuit) → possible_cause c ≡ None → c.inputs < 2 ^ 28
-few_inputs c h = ltb-true c.inputs (2 ^ 28) (past (nat_lt c.inputs (2 ^ 28)) _ _ h).0
+few_inputs c h =
+    let some = past (has_outputs c) _ _ h in
+    ltb-true c.inputs (2 ^ 28) (past (nat_lt c.inputs (2 ^ 28)) _ _ some.1).0
 
 pub alike : (c c' : read.Circuit) → different_cause c c' ≡ None → HaveShapes c c' × (possible_cause c ≡ None)
 alike c c' h =

@@ -11,6 +11,9 @@ use sat_formula::Var;
 pub(crate) fn possible_cause(circuit: &Circuit) -> Option<ClausesFault>
     ensures { result ≡ possible_cause circuit.now }
 {
+    if circuit.outputs.is_empty() {
+        return Some(ClausesFault::NoOutputs);
+    }
     if circuit.inputs as usize >= Var::MAX_COUNT {
         return Some(ClausesFault::TooLarge);
     }

@@ -31,7 +31,8 @@ pub struct Judged {
 ///
 /// # Errors
 ///
-/// `TooLarge` if there is no literal for an input; `OutOfMemory`, if there is.
+/// The first that applies: `NoOutputs` if the circuit has none, `TooLarge` if there is no literal
+/// for an input, and `OutOfMemory`.
 pub fn judge_possible(
     alloc: Global,
     circuit: &Circuit,
@@ -63,7 +64,8 @@ pub fn judge_possible(
 /// # Errors
 ///
 /// The first that applies: `OtherInputs` and `OtherOutputs` if the circuits have different shapes,
-/// `TooLarge` if there is no literal for an input, and `OutOfMemory`.
+/// `NoOutputs` if they have none, `TooLarge` if there is no literal for an input, and
+/// `OutOfMemory`.
 pub fn judge_different(
     alloc: Global,
     one: &Circuit,

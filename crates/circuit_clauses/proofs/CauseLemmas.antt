@@ -14,7 +14,7 @@ use Rattle.circuit_clauses.specs.declared.fault.ClausesFault.{ClausesFault}
 use Rattle.circuit_clauses.specs.declared.induction.Induction.{Induction}
 use Rattle.circuit_clauses.specs.declared.induction.Part.TheVariants.{Step}
 use Rattle.circuit_clauses.specs.declared.places.Places.{Places}
-use Rattle.circuit_clauses.specs.Causes.{are_both_ordered, end_of, fits_part, gates_fit, is_closed, is_invariant, is_machine, last_of, latches_fit, lit_fits, safe_cause, same_cause, unless, variables}
+use Rattle.circuit_clauses.specs.Causes.{are_both_ordered, end_of, fits_part, gates_fit, has_outputs, is_closed, is_invariant, is_machine, last_of, latches_fit, lit_fits, safe_cause, same_cause, unless, variables}
 use Rattle.circuit_clauses.specs.Formulas.{gates_in}
 use Rattle.circuit_clauses.specs.Machines.{IsInduction, bad_of, gates_of, machine_in, more_gates, size_of, states_in}
 use Rattle.circuit_clauses.specs.Places.{HasCounts, HasPlaces}
@@ -48,7 +48,8 @@ pub alike : (c c' : Circuit) → same_cause c c' ≡ None → AreAlike c c'
 alike c c' h =
     let inputs = past (c.inputs == c'.inputs) _ _ h in
     let outputs = past (length c.outputs.items == length c'.outputs.items) _ _ inputs.1 in
-    let room = past (nat_lt (variables c c') (2 ^ 28)) _ _ outputs.1 in
+    let some = past (has_outputs c) _ _ outputs.1 in
+    let room = past (nat_lt (variables c c') (2 ^ 28)) _ _ some.1 in
     let ordered = past (are_both_ordered c.inputs c c') _ _ room.1 in
     let closed = past (is_closed c.inputs c c.outputs.items && is_closed c.inputs c' c'.outputs.items) _ _ ordered.1 in
     let both = and_parts (are_ordered (suc c.inputs) (gates_in c)) (are_ordered (suc c.inputs) (gates_in c')) ordered.0 in

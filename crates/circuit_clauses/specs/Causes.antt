@@ -12,7 +12,7 @@ use Rattle.circuit_rules.specs.Checks.{gates_below, lits_below}
 use Rattle.circuit_rules.specs.Safety.{latches_below}
 use Rattle.circuit_text.specs.declared.circuit.Circuit.{Circuit}
 use Rattle.circuit_clauses.specs.declared.fault.ClausesFault.{ClausesFault}
-use Rattle.circuit_clauses.specs.declared.fault.ClausesFault.TheVariants.{Unordered, OtherInputs, OtherOutputs, OutOfRange, NothingBad, NoInvariant, OtherStates, TooLarge, OutOfMemory}
+use Rattle.circuit_clauses.specs.declared.fault.ClausesFault.TheVariants.{Unordered, OtherInputs, OtherOutputs, NoOutputs, OutOfRange, NothingBad, NoInvariant, OtherStates, TooLarge, OutOfMemory}
 use Rattle.circuit_clauses.specs.declared.induction.Induction.{Induction}
 use Rattle.circuit_clauses.specs.declared.induction.Part.{Part}
 use Rattle.circuit_clauses.specs.declared.induction.Part.TheVariants.{Initial, Step, Bad}
@@ -29,9 +29,13 @@ unless test fault next = if test then next else Some fault
 
 -- ---- one circuit
 
--- a gate reads itself or a later gate, or has the variable of an input
+-- some output is there of which something can be claimed
+abbrev pub has_outputs : Circuit → Bool
+has_outputs c = nat_lt 0 (length c.outputs.items)
+
+-- the first of these: no outputs; a gate reads itself or a later gate, or has the variable of an input
 abbrev pub never_cause : Circuit → Option ClausesFault
-never_cause c = unless (are_ordered (suc c.inputs) (gates_in c)) Unordered None
+never_cause c = unless (has_outputs c) NoOutputs (unless (are_ordered (suc c.inputs) (gates_in c)) Unordered None)
 
 -- ---- two circuits
 
@@ -56,9 +60,10 @@ abbrev pub same_cause : Circuit → Circuit → Option ClausesFault
 same_cause c c' =
     unless (c.inputs == c'.inputs) OtherInputs
     (unless (length c.outputs.items == length c'.outputs.items) OtherOutputs
+    (unless (has_outputs c) NoOutputs
     (unless (nat_lt (variables c c') (2 ^ 28)) TooLarge
     (unless (are_both_ordered c.inputs c c') Unordered
-    (unless (is_closed c.inputs c c.outputs.items && is_closed c.inputs c' c'.outputs.items) OutOfRange None))))
+    (unless (is_closed c.inputs c c.outputs.items && is_closed c.inputs c' c'.outputs.items) OutOfRange None)))))
 
 -- ---- a machine and an invariant
 

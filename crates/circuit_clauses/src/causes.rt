@@ -12,6 +12,9 @@ use sat_formula::Var;
 pub(crate) fn never_cause(circuit: &Circuit) -> Option<ClausesFault>
     ensures { result ≡ never_cause circuit.now }
 {
+    if circuit.outputs.is_empty() {
+        return Some(ClausesFault::NoOutputs);
+    }
     if !are_ordered(circuit.inputs as usize + 1, &circuit.gates) {
         return Some(ClausesFault::Unordered);
     }
@@ -28,6 +31,9 @@ pub(crate) fn same_cause(one: &Circuit, other: &Circuit) -> Option<ClausesFault>
     }
     if outputs != other.outputs.len() {
         return Some(ClausesFault::OtherOutputs);
+    }
+    if outputs == 0 {
+        return Some(ClausesFault::NoOutputs);
     }
     let (own, others) = (one.gates.len(), other.gates.len());
     if !are_few(Var::MAX_COUNT, inputs, own, others, outputs) {

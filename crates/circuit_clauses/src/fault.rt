@@ -17,6 +17,9 @@ pub enum ClausesFault {
     /// The two circuits have different numbers of outputs.
     #[error("the circuits have different numbers of outputs")]
     OtherOutputs,
+    /// The circuits have no outputs, so that nothing is claimed of them.
+    #[error("the circuits have no outputs")]
+    NoOutputs,
     /// A literal is of no input, no latch and no gate.
     #[error("a literal is of no input, no latch and no gate")]
     OutOfRange,

@@ -1,5 +1,5 @@
 //! The formula of a circuit that is never true.
-ghost use Rattle.std.specs.Prelude.{IfErr, IfOk};
+ghost use Rattle.std.specs.Prelude.{◌≡◌, None, IfErr, IfOk};
 ghost use Rattle.circuit_clauses.specs.Causes.{IsCause, never_cause};
 ghost use Rattle.circuit_clauses.specs.Formulas.{HasNever};
 
@@ -14,10 +14,11 @@ use std::alloc::Global;
 ///
 /// # Errors
 ///
-/// `Unordered` if a gate reads itself or a later gate, or has the variable of an input;
-/// `OutOfMemory`, if it is not so.
+/// The first that applies: `NoOutputs`, `Unordered` if a gate reads itself or a later gate, or has
+/// the variable of an input, and `OutOfMemory`.
 pub fn never_formula(alloc: Global, circuit: &Circuit) -> Result<CnfFormula, ClausesFault>
     ensures formula { IfOk result (HasNever circuit.now) }
+    ensures none { IfOk result (λ formula. never_cause circuit.now ≡ None) }
     ensures fault { IfErr result (IsCause (never_cause circuit.now)) }
 {
     if let Some(fault) = never_cause(circuit) {

@@ -19,8 +19,8 @@ use std::alloc::{AllocError, Global};
 /// # Errors
 ///
 /// The first that applies: `OtherInputs` and `OtherOutputs` if the circuits have different shapes,
-/// `TooLarge`, `Unordered` and `OutOfRange` if a gate or an output of one of them reads what is not
-/// there, and `OutOfMemory`.
+/// `NoOutputs` if they have none, `TooLarge`, `Unordered` and `OutOfRange` if a gate or an output
+/// of one of them reads what is not there, and `OutOfMemory`.
 pub fn same_formula(
     alloc: Global,
     one: &Circuit,
