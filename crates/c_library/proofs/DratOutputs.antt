@@ -46,11 +46,11 @@ places_core formula old new placed (Some v) (Some w) empty wrote is = record {
 }
 
 -- what a verified run wrote
-pub both_written : {O : Type 0} (line : O → Option (List ℕ)) (out out' : O) (cnf : Option (List ℕ)) (before after : Outputs (Vec ℕ) (Vec ℕ))
+pub both_written : (cnf : Option (List ℕ)) (before after : Outputs (Vec ℕ) (Vec ℕ))
     (r : Result Verdict RunFault) → r ≡ Ok Verified
-    → OfFormula cnf (λ formula. WritesOutputs formula held held before after line out out' r) ⊎ HasNoFormula r
+    → OfFormula cnf (λ formula. WritesOutputs formula held held before after r) ⊎ HasNoFormula r
     → OfFormula cnf (λ formula. AllWritten formula held held before after)
-both_written line out out' cnf before after (Ok Verified) is (inl wrote) = wrote
-both_written line out out' cnf before after (Ok Verified) is (inr none) = absurd none
-both_written line out out' cnf before after (Ok NotVerified) is wrote = absurd cc
-both_written line out out' cnf before after (Err fault) is wrote = absurd cc
+both_written cnf before after (Ok Verified) is (inl wrote) = wrote
+both_written cnf before after (Ok Verified) is (inr none) = absurd none
+both_written cnf before after (Ok NotVerified) is wrote = absurd cc
+both_written cnf before after (Err fault) is wrote = absurd cc

@@ -79,7 +79,6 @@ drat_status (Err (drat_fault.Proof fault)) = proof_status fault
 drat_status (Err (drat_fault.Lrat cause)) = 4
 drat_status (Err (drat_fault.Trim cause)) = 4
 drat_status (Err (drat_fault.Core cause)) = 4
-drat_status (Err (drat_fault.Write cause)) = 1
 
 -- ---- models
 

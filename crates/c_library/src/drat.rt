@@ -22,7 +22,6 @@ use lrat_text::LratTextFault;
 use sat_formula::DimacsFault;
 use std::alloc::Global;
 use std::cell::Cell;
-use std::io::sink;
 
 /// The options of a check of a DRAT or FRAT proof.
 #[repr(C)]
@@ -91,8 +90,7 @@ pub extern "C" fn cefindrato_drat_check(
         core: output(alloc, options.core),
         counts: Cell::default(),
     };
-    let (out, lie) = (&mut sink(), &mut None);
-    let outcome = run_check(&Discard, alloc, cnf, proof, format, outputs, out, lie);
+    let outcome = run_check(&Discard, alloc, cnf, proof, format, outputs, &mut None);
     answer_to(alloc, &outcome, options, outputs, lrat, core, text)
 }
 

@@ -15,14 +15,12 @@ ghost use Rattle.whole_writes.specs.Beginnings.{AppendsBeginning};
 use crate::fault::CircuitFault;
 use crate::formulas::{read_never, read_same};
 use crate::line::Claim;
-use drat_check::{LineForm, Outputs, ProofFormat, RunCounts, RunFault, Verdict, run_proof};
+use drat_check::{Outputs, ProofFormat, RunFault, Verdict, run_proof};
 use log::Log;
 use sat_formula::CnfFormula;
 use sat_output::write_formula;
 use std::alloc::Global;
-use std::cell::Cell;
-use std::io;
-use std::io::{Read, Sink, Write};
+use std::io::{Read, Write};
 use whole_writes::write_whole;
 
 /// Reads a circuit, checks a proof that no input makes an output true, and writes the verdict's
@@ -177,22 +175,7 @@ pub(crate) fn check_proof<R: Log, P: Read + Drop>(
     ensures run { IsProofRun formula.now result }
     ensures refutes { result ≡ Ok Verified → IsRefuted formula.now }
 {
-    let mut outputs: Outputs<Sink, Sink> = Outputs {
-        lrat: None,
-        form: LineForm::Text,
-        trim: None,
-        core: None,
-        counts: Cell::new(RunCounts::default()),
-    };
-    run_proof(
-        rt,
-        alloc,
-        formula,
-        proof,
-        format,
-        &mut outputs,
-        &mut io::sink(),
-    )
+    run_proof(rt, alloc, formula, proof, format, &mut Outputs::none())
 }
 
 /// Writes the line of a verdict.

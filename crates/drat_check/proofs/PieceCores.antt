@@ -1,6 +1,5 @@
 -- Cores of pieces: what a part of a formula shows, the formula shows; and what is written of a part.
 use Rattle.std.proofs.Common.{◌≡◌, ◌≢◌, ℕ, Bool, true, false, List, [], ◌∷◌, None, Result, Ok, Err, refl, sym, ap, ◌∙◌, subst}
-use Rattle.std.specs.Prelude.{IfOk}
 use Rattle.std.specs.Io.KnownBytes.{Appends}
 use Rattle.std.proofs.lemmas.Bool.{and_from, and_parts, false_from_ne_true, true≢false}
 use Rattle.sat_formula.specs.Readings.{Known}
@@ -10,12 +9,12 @@ use Rattle.whole_writes.specs.Beginnings.{AppendsBeginning}
 use Rattle.verdicts.specs.declared.piece.PieceVerdict.{PieceVerdict}
 use Rattle.verdicts.specs.declared.piece.PieceVerdict.TheVariants.{Refuted, Carried, NotCarried}
 use Rattle.verdicts.specs.Texts.{IsPieceShown}
-use Rattle.drat_check.specs.declared.fault.RunFault.TheVariants.{Core, Write}
+use Rattle.drat_check.specs.declared.fault.RunFault.TheVariants.{Core}
 use Rattle.drat_check.specs.declared.piece_fault.PieceFault.{PieceFault}
 use Rattle.drat_check.specs.declared.piece_fault.PieceFault.TheVariants.{Run}
 use Rattle.drat_check.specs.Outputs.{BeganCore, IsPartOf, flagged}
 use Rattle.drat_check.specs.PieceCores.{CoreShown, WritesCore}
-use Rattle.drat_check.specs.Pieces.{IsEarlyPiece}
+use Rattle.drat_check.specs.Pieces.{IsReadPieceRun}
 use Rattle.drat_check.proofs.WrittenCores.{core_none}
 
 -- ---- parts
@@ -32,7 +31,8 @@ part_true a (false ∷ flags) (c ∷ cs) t = part_true a flags cs (and_parts (cl
 satisfies_part : (formula used : List (List ℕ)) → IsPartOf used formula → (a : ℕ → Bool) → all_true a formula ≡ true → all_true a used ≡ true
 satisfies_part formula used part a t = subst (λ (cs : List (List ℕ)). all_true a cs ≡ true) (sym part.1) (part_true a part.0 formula t)
 
-shown_whole : (formula used wanted : List (List ℕ)) → IsPartOf used formula → (verdict : PieceVerdict) → IsPieceShown used wanted verdict → IsPieceShown formula wanted verdict
+-- what a part shows of it, the formula shows
+pub shown_whole : (formula used wanted : List (List ℕ)) → IsPartOf used formula → (verdict : PieceVerdict) → IsPieceShown used wanted verdict → IsPieceShown formula wanted verdict
 shown_whole formula used wanted part Refuted p = λ a. false_from_ne_true (all_true a formula) (λ t. true≢false (sym (satisfies_part formula used part a t) ∙ p a))
 shown_whole formula used wanted part Carried p = λ a t. p a (satisfies_part formula used part a t)
 shown_whole formula used wanted part NotCarried p = tt
@@ -49,11 +49,6 @@ every_clause (c ∷ cs) = ap (λ (ds : List (List ℕ)). c ∷ ds) (every_clause
 -- ---- what is written of a part
 
 module _ (formula wanted : List (List ℕ)) (core core' : Known) where
-  pub core_shows : (old new : Known) (r : Result PieceVerdict PieceFault) → WritesCore formula wanted core core' old new r → IfOk r (IsPieceShown formula wanted)
-  core_shows old new (Err fault) p = tt
-  core_shows old new (Ok NotCarried) p = tt
-  core_shows old new (Ok verdict) p = shown_whole formula p.used wanted p.is_part verdict p.shown
-
   pub core_written : (used : List (List ℕ)) → IsPartOf used formula → Appends core core' (formula_text used) → (verdict : PieceVerdict) → verdict ≢ NotCarried →
       IsPieceShown used wanted verdict → CoreShown formula wanted core core' verdict
   core_written used part text NotCarried decided p = absurd (decided refl)
@@ -64,13 +59,12 @@ module _ (formula wanted : List (List ℕ)) (core core' : Known) where
 
 module _ (formula wanted : List (List ℕ)) where
   -- nothing was written before this fault
-  pub core_unwritten : (core old new : Known) (fault : PieceFault) → IsEarlyPiece {A = PieceVerdict} (Err fault) → WritesCore formula wanted core core old new (Err fault)
-  core_unwritten core old new (Run (Core cause)) early = core_none formula core
-  core_unwritten core old new (Run (Write cause)) early = absurd early
-  core_unwritten core old new fault early = refl
+  pub core_unwritten : (core : Known) (fault : PieceFault) → WritesCore formula wanted core core (Err fault)
+  core_unwritten core (Run (Core cause)) = core_none formula core
+  core_unwritten core fault = refl
 
   -- without a writer the formula serves
-  pub no_core : (old new : Known) (r : Result PieceVerdict PieceFault) → IsEarlyPiece r → IfOk r (IsPieceShown formula wanted) → WritesCore formula wanted None None old new r
-  no_core old new (Err fault) early p = core_unwritten None old new fault early
-  no_core old new (Ok NotCarried) early p = refl
-  no_core old new (Ok verdict) early p = record { used = formula; is_part = (every_flag formula, every_clause formula); shown = p; text = tt }
+  pub no_core : (r : Result PieceVerdict PieceFault) → IsReadPieceRun formula wanted r → WritesCore formula wanted None None r
+  no_core (Err fault) p = core_unwritten None fault
+  no_core (Ok NotCarried) p = refl
+  no_core (Ok verdict) p = record { used = formula; is_part = (every_flag formula, every_clause formula); shown = p; text = tt }

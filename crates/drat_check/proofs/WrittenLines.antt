@@ -21,9 +21,9 @@ use Rattle.sat_output.specs.declared.form.LineForm.TheVariants.{Text, Binary}
 use Rattle.sat_output.proofs.Beginnings.{begins_front, begins_nothing, begins_past, begins_whole}
 use Rattle.drat_check.specs.declared.fault.ProofFault.{ProofFault}
 use Rattle.drat_check.specs.declared.fault.RunFault.{RunFault}
-use Rattle.drat_check.specs.declared.fault.RunFault.TheVariants.{Formula, Proof, Lrat, Trim, Core, Write}
+use Rattle.drat_check.specs.declared.fault.RunFault.TheVariants.{Formula, Proof, Lrat, Trim, Core}
 use Rattle.drat_check.specs.declared.outputs.Outputs.{Outputs}
-use Rattle.drat_check.specs.Outputs.{BeganLines, HasWritten, IfWanted, IsLineFault, WritesBefore, WroteProof, bytes_in}
+use Rattle.drat_check.specs.Outputs.{BeganLines, HasWritten, IfWanted, IsLineFault, WritesOutputs, WroteProof, bytes_in}
 
 -- ---- texts of lines
 
@@ -209,16 +209,15 @@ on_err P (Err e) p = p
 
 -- a rejection before a line was made
 pub refused : {L C : Type 0} (formula : List (List ℕ)) (lrat : L → Known) (core : C → Known) (s : Outputs L C) (fault : ProofFault) →
-    WritesBefore formula lrat core s s (Err (Proof fault))
+    WritesOutputs formula lrat core s s (Err (Proof fault))
 refused formula lrat core s fault = (began_none, refl)
 
 -- a fault of making or writing lines, before the core is written
 pub began_before : {L C : Type 0} (formula : List (List ℕ)) (lrat : L → Known) (core : C → Known) (s s' : Outputs L C) (fault : RunFault) →
     IsLineFault {A = Unit {0}} (Err fault) → BeganLines s.form formula (bytes_in lrat s.lrat) (bytes_in lrat s'.lrat) (bytes_in lrat s.trim) (bytes_in lrat s'.trim) →
-    s'.core ≡ s.core → WritesBefore formula lrat core s s' (Err fault)
+    s'.core ≡ s.core → WritesOutputs formula lrat core s s' (Err fault)
 began_before formula lrat core s s' (Formula fault) made began kept = absurd made
 began_before formula lrat core s s' (Core cause) made began kept = absurd made
-began_before formula lrat core s s' (Write cause) made began kept = absurd made
 began_before formula lrat core s s' (Proof fault) made began kept = (began, kept)
 began_before formula lrat core s s' (Lrat cause) made began kept = (began, kept)
 began_before formula lrat core s s' (Trim cause) made began kept = (began, kept)

@@ -1,6 +1,6 @@
 -- Lines of a piece of a proof that are accepted and written, without their steps, and what a verdict on the piece relies on.
 use Rattle.std.proofs.Common.{◌≡◌, ℕ, List, [], ◌∷◌, ◌++◌, length, Option, None, Result, Ok, Err, false, refl, sym, ap, ◌∙◌, subst, inl}
-use Rattle.std.specs.Prelude.{IfOk}
+use Rattle.std.specs.Prelude.{IfErr, IfOk}
 use Rattle.std.specs.Option.{option_map}
 use Rattle.std.specs.Io.KnownBytes.{Appends, Keeps}
 use Rattle.std.proofs.KnownBytes.{Appends-kept, Appends-trans}
@@ -24,12 +24,12 @@ use Rattle.sat_output.proofs.Beginnings.{begins_nothing, begins_past}
 use Rattle.verdicts.specs.declared.piece.PieceVerdict.{PieceVerdict}
 use Rattle.verdicts.specs.Texts.{IsPieceShown, OfFormula, OfFormulas}
 use Rattle.verdicts.proofs.Reading.{of_formulas}
-use Rattle.drat_check.specs.declared.fault.RunFault.TheVariants.{Formula, Write}
+use Rattle.drat_check.specs.declared.fault.RunFault.TheVariants.{Formula}
 use Rattle.drat_check.specs.declared.piece_fault.PieceFault.{PieceFault}
 use Rattle.drat_check.specs.declared.piece_fault.PieceFault.TheVariants.{Run, Wanted, Lost}
 use Rattle.drat_check.specs.Outputs.{BeganLines, HasWritten}
 use Rattle.drat_check.specs.PieceCores.{WritesCore, WritesPieceCore}
-use Rattle.drat_check.specs.Pieces.{IsEarlyPiece, IsPieceRun, IsReadPieceRun, TellsPieceLies, WritesEarly, WritesPiece, WritesRead, WritesShown, WrotePiece}
+use Rattle.drat_check.specs.Pieces.{IsAfterFormulas, IsPieceRun, IsReadPieceRun, TellsPieceLies, WritesPiece, WritesRead, WritesShown, WrotePiece}
 use Rattle.drat_check.proofs.WrittenLines.{last_of, lines_in-more}
 
 -- ---- lines without steps
@@ -83,32 +83,16 @@ wrote_piece {form} {formula} {lrat = lrat} {lrat'} {lrat''} p ids named kept = r
   text = Appends-kept lrat lrat' lrat'' (lines_in form (length formula) p.lines) p.text kept;
 }
 
--- a run that ends with this verdict or a fault
-pub shown_by : (P : PieceVerdict → Type 0) (r : Result PieceVerdict PieceFault) (verdict : PieceVerdict) → IfOk r (λ x. x ≡ verdict) → P verdict → IfOk r P
-shown_by P (Ok x) verdict same p = subst P (sym same) p
-shown_by P (Err fault) verdict same p = tt
+-- a run that ends with this verdict, which is true, or a fault
+pub shown_by : (formula wanted : List (List ℕ)) (r : Result PieceVerdict PieceFault) (verdict : PieceVerdict) → IfOk r (λ x. x ≡ verdict) → IfErr r IsAfterFormulas →
+    IsPieceShown formula wanted verdict → IsReadPieceRun formula wanted r
+shown_by formula wanted (Ok x) verdict same after p = subst (IsPieceShown formula wanted) (sym same) p
+shown_by formula wanted (Err fault) verdict same after p = after
 
 pub ended : (form : LineForm) (formula wanted : List (List ℕ)) (lrat lrat' : Known) (r : Result PieceVerdict PieceFault) (verdict : PieceVerdict) →
-    IfOk r (λ x. x ≡ verdict) → WritesShown form formula wanted lrat lrat' verdict → BeganLines form formula lrat lrat' None None → WritesEarly form formula wanted lrat lrat' r
+    IfOk r (λ x. x ≡ verdict) → WritesShown form formula wanted lrat lrat' verdict → BeganLines form formula lrat lrat' None None → WritesRead form formula wanted lrat lrat' r
 ended form formula wanted lrat lrat' (Ok x) verdict same p began = subst (WritesShown form formula wanted lrat lrat') (sym same) p
 ended form formula wanted lrat lrat' (Err fault) verdict same p began = began
-
--- ---- runs after two formulas
-
--- a fault that came before the verdict's line
-pub early_run : (formula wanted : List (List ℕ)) (fault : PieceFault) → IsEarlyPiece {A = PieceVerdict} (Err fault) → IsReadPieceRun formula wanted (Err fault)
-early_run formula wanted (Run (Formula fault)) early = absurd early
-early_run formula wanted (Run (Write cause)) early = absurd early
-early_run formula wanted (Wanted fault) early = absurd early
-early_run formula wanted fault early = tt
-
-module _ (form : LineForm) (formula wanted : List (List ℕ)) (lrat lrat' old new : Known) where
-  pub early_lines : (fault : PieceFault) → IsEarlyPiece {A = PieceVerdict} (Err fault) → BeganLines form formula lrat lrat' None None →
-      WritesRead form formula wanted lrat lrat' old new (Err fault)
-  early_lines (Run (Formula fault)) early began = absurd early
-  early_lines (Run (Write cause)) early began = absurd early
-  early_lines (Wanted fault) early began = absurd early
-  early_lines fault early began = began
 
 -- ---- runs after the texts of two formulas
 
@@ -127,15 +111,14 @@ module _ (cnf holds : Known) (formula wanted : List (List ℕ)) (whole : IsOutco
   read_run (Err (Wanted fault)) p = absurd p
   read_run (Err Lost) p = both (λ formula wanted. Unit {0}) tt
 
-  pub read_lines : (form : LineForm) (lrat lrat' old new : Known) (r : Result PieceVerdict PieceFault) → WritesRead form formula wanted lrat lrat' old new r →
-      WritesPiece form cnf holds lrat lrat' old new r
-  read_lines form lrat lrat' old new (Err (Run (Formula fault))) p = absurd p
-  read_lines form lrat lrat' old new (Err (Wanted fault)) p = absurd p
-  read_lines form lrat lrat' old new r p = both (λ formula wanted. WritesRead form formula wanted lrat lrat' old new r) p
+  pub read_lines : (form : LineForm) (lrat lrat' : Known) (r : Result PieceVerdict PieceFault) → IsReadPieceRun formula wanted r →
+      WritesRead form formula wanted lrat lrat' r → WritesPiece form cnf holds lrat lrat' r
+  read_lines form lrat lrat' (Err (Run (Formula fault))) read p = absurd read
+  read_lines form lrat lrat' (Err (Wanted fault)) read p = absurd read
+  read_lines form lrat lrat' r read p = both (λ formula wanted. WritesRead form formula wanted lrat lrat' r) p
 
-  pub read_core : (core core' old new : Known) (r : Result PieceVerdict PieceFault) → WritesCore formula wanted core core' old new r →
-      WritesPieceCore cnf holds core core' old new r
-  read_core core core' old new r p = inl (both (λ formula wanted. WritesCore formula wanted core core' old new r) p)
+  pub read_core : (core core' : Known) (r : Result PieceVerdict PieceFault) → WritesCore formula wanted core core' r → WritesPieceCore cnf holds core core' r
+  read_core core core' r p = inl (both (λ formula wanted. WritesCore formula wanted core core' r) p)
 
 -- what is reported of both headers, once both formulas were read
 pub read_lies : (cnf holds : Known) (formula wanted : List (List ℕ)) (before lie other : Option LyingHeader) (r : Result PieceVerdict PieceFault) →

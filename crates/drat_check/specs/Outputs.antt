@@ -6,8 +6,7 @@
 --     WroteProof, BeganLines      lines that refute the formula were written, and their steps, or beginnings for lines that were accepted
 --     WroteCore, BeganCore      a part of the formula was written as a formula, or a beginning of that
 --     IsLineFault r      no fault but of making and writing lines
---     WritesBefore      what a run wrote beside its verdict's line, before that
---     WritesOutputs      what a run wrote beside its verdict's line, and of that where it was not written whole
+--     WritesOutputs      what a run wrote
 use Rattle.std.specs.Prelude.{◌≡◌, ℕ, Bool, true, false, List, [], ◌∷◌, length, Option, Some, None, Result, Ok, Err}
 use Rattle.std.specs.Io.KnownBytes.{Appends}
 use Rattle.sat_rules.specs.Named.{Item}
@@ -20,13 +19,11 @@ use Rattle.sat_output.specs.FormulaTexts.{formula_text}
 use Rattle.sat_output.specs.LineForms.{lines_in}
 use Rattle.sat_output.specs.declared.form.LineForm.{LineForm}
 use Rattle.whole_writes.specs.Beginnings.{AppendsBeginning}
-use Rattle.verdicts.specs.Verdicts.{shown_line}
 use Rattle.verdicts.specs.declared.verdict.Verdict.{Verdict}
 use Rattle.verdicts.specs.declared.verdict.Verdict.TheVariants.{Verified, NotVerified}
 use Rattle.drat_check.specs.declared.fault.RunFault.{RunFault}
-use Rattle.drat_check.specs.declared.fault.RunFault.TheVariants.{Formula, Proof, Lrat, Trim, Core, Write}
+use Rattle.drat_check.specs.declared.fault.RunFault.TheVariants.{Formula, Proof, Lrat, Trim, Core}
 use Rattle.drat_check.specs.declared.outputs.Outputs.{Outputs}
-use Rattle.drat_check.specs.Runs.{IsShown}
 
 -- the bytes that a writer holds, where there is one and they are known
 abbrev pub bytes_in : {W : Type 0} → (W → Option (List ℕ)) → Option W → Option (List ℕ)
@@ -97,7 +94,6 @@ IsLineFault (Err (Proof fault)) = Unit {0}
 IsLineFault (Err (Lrat cause)) = Unit {0}
 IsLineFault (Err (Trim cause)) = Unit {0}
 IsLineFault (Err (Core cause)) = ⊥
-IsLineFault (Err (Write cause)) = ⊥
 
 module _ {L C : Type 0} (formula : List (List ℕ)) (lrat : L → Option (List ℕ)) (core : C → Option (List ℕ))
     (s s' : Outputs L C) where
@@ -118,32 +114,14 @@ module _ {L C : Type 0} (formula : List (List ℕ)) (lrat : L → Option (List �
   WritesFor Verified = AllWritten
   WritesFor NotVerified = s' ≡ s
 
-  -- what was written before the verdict's line
-  abbrev pub WritesBefore : Result Verdict RunFault → Type 0
-  WritesBefore (Ok verdict) = WritesFor verdict
-  WritesBefore (Err (Formula fault)) = s' ≡ s
-  WritesBefore (Err (Proof fault)) = LinesBegan
-  WritesBefore (Err (Lrat cause)) = LinesBegan
-  WritesBefore (Err (Trim cause)) = LinesBegan
-  WritesBefore (Err (Core cause)) =
+  -- what was written, by what the run returned
+  abbrev pub WritesOutputs : Result Verdict RunFault → Type 0
+  WritesOutputs (Ok verdict) = WritesFor verdict
+  WritesOutputs (Err (Formula fault)) = s' ≡ s
+  WritesOutputs (Err (Proof fault)) = LinesBegan
+  WritesOutputs (Err (Lrat cause)) = LinesBegan
+  WritesOutputs (Err (Trim cause)) = LinesBegan
+  WritesOutputs (Err (Core cause)) =
       WroteProof s.form formula (bytes_in lrat s.lrat) (bytes_in lrat s'.lrat)
       (bytes_in lrat s.trim) (bytes_in lrat s'.trim)
       × BeganCore formula (bytes_in core s.core) (bytes_in core s'.core)
-  WritesBefore (Err (Write cause)) = ⊥
-
-  -- there was a true verdict: what it relies on was written, and a beginning of its line
-  pub record LeftUnwritten (old new : Option (List ℕ)) : Type 0 where
-    pub verdict : Verdict
-    pub shown : IsShown formula verdict
-    pub stands : WritesFor verdict
-    pub begins : AppendsBeginning old new (shown_line verdict)
-
-  -- what a run wrote; of the verdict's line that which a write that failed has left
-  abbrev pub WritesOutputs : {W : Type 0} → (W → Option (List ℕ)) → W → W → Result Verdict RunFault → Type 0
-  WritesOutputs line w w' (Ok verdict) = WritesBefore (Ok verdict)
-  WritesOutputs line w w' (Err (Formula fault)) = WritesBefore (Err (Formula fault))
-  WritesOutputs line w w' (Err (Proof fault)) = WritesBefore (Err (Proof fault))
-  WritesOutputs line w w' (Err (Lrat cause)) = WritesBefore (Err (Lrat cause))
-  WritesOutputs line w w' (Err (Trim cause)) = WritesBefore (Err (Trim cause))
-  WritesOutputs line w w' (Err (Core cause)) = WritesBefore (Err (Core cause))
-  WritesOutputs line w w' (Err (Write cause)) = LeftUnwritten (line w) (line w')

@@ -5,11 +5,9 @@ use Rattle.std.specs.Prelude.{◌≡◌, ◌⊎◌, ℕ, List, Option, Result, O
 use Rattle.std.specs.Io.KnownBytes.{Appends}
 use Rattle.verdicts.specs.Texts.{IsPieceShown, OfFormulas}
 use Rattle.sat_output.specs.FormulaTexts.{formula_text}
-use Rattle.whole_writes.specs.Beginnings.{AppendsBeginning}
-use Rattle.verdicts.specs.Pieces.{piece_line}
 use Rattle.verdicts.specs.declared.piece.PieceVerdict.{PieceVerdict}
 use Rattle.verdicts.specs.declared.piece.PieceVerdict.TheVariants.{Refuted, Carried, NotCarried}
-use Rattle.drat_check.specs.declared.fault.RunFault.TheVariants.{Formula, Proof, Lrat, Trim, Core, Write}
+use Rattle.drat_check.specs.declared.fault.RunFault.TheVariants.{Formula, Proof, Lrat, Trim, Core}
 use Rattle.drat_check.specs.declared.piece_fault.PieceFault.{PieceFault}
 use Rattle.drat_check.specs.declared.piece_fault.PieceFault.TheVariants.{Run, Wanted, Lost}
 use Rattle.drat_check.specs.Outputs.{BeganCore, IsPartOf}
@@ -29,27 +27,20 @@ module _ (formula wanted : List (List ℕ)) (core core' : Option (List ℕ)) whe
   CoreShown Carried = WroteShown Carried
   CoreShown NotCarried = core' ≡ core
 
-  -- one verdict stood: its core was written, and a beginning of its line
-  pub record LeftCore (old new : Option (List ℕ)) : Type 0 where
-    pub verdict : PieceVerdict
-    pub stands : CoreShown verdict
-    pub begins : AppendsBeginning old new (piece_line verdict)
-
-  -- what a run wrote; of the verdict's line that which a write that failed has left
-  abbrev pub WritesCore : Option (List ℕ) → Option (List ℕ) → Result PieceVerdict PieceFault → Type 0
-  WritesCore old new (Ok verdict) = CoreShown verdict
-  WritesCore old new (Err (Wanted fault)) = core' ≡ core
-  WritesCore old new (Err Lost) = core' ≡ core
-  WritesCore old new (Err (Run (Formula fault))) = core' ≡ core
-  WritesCore old new (Err (Run (Proof fault))) = core' ≡ core
-  WritesCore old new (Err (Run (Lrat cause))) = core' ≡ core
-  WritesCore old new (Err (Run (Trim cause))) = core' ≡ core
-  WritesCore old new (Err (Run (Core cause))) = BeganCore formula core core'
-  WritesCore old new (Err (Run (Write cause))) = LeftCore old new
+  -- what a run wrote
+  abbrev pub WritesCore : Result PieceVerdict PieceFault → Type 0
+  WritesCore (Ok verdict) = CoreShown verdict
+  WritesCore (Err (Wanted fault)) = core' ≡ core
+  WritesCore (Err Lost) = core' ≡ core
+  WritesCore (Err (Run (Formula fault))) = core' ≡ core
+  WritesCore (Err (Run (Proof fault))) = core' ≡ core
+  WritesCore (Err (Run (Lrat cause))) = core' ≡ core
+  WritesCore (Err (Run (Trim cause))) = core' ≡ core
+  WritesCore (Err (Run (Core cause))) = BeganCore formula core core'
 
 -- the same after both texts; nothing is written where one is no formula
 abbrev pub WritesPieceCore : Option (List ℕ) → Option (List ℕ) → Option (List ℕ) → Option (List ℕ)
-    → Option (List ℕ) → Option (List ℕ) → Result PieceVerdict PieceFault → Type 0
-WritesPieceCore cnf holds core core' old new r =
-    OfFormulas cnf holds (λ formula wanted. WritesCore formula wanted core core' old new r)
+    → Result PieceVerdict PieceFault → Type 0
+WritesPieceCore cnf holds core core' r =
+    OfFormulas cnf holds (λ formula wanted. WritesCore formula wanted core core' r)
     ⊎ (IsUnreadPiece r × (core' ≡ core))

@@ -1,10 +1,10 @@
 -- Runs over one piece of a proof, after a formula and the target clauses of the piece.
+--     IsAfterFormulas fault      one that comes once both formulas were read
 --     IsReadPieceRun, IsPieceRun      the run after two formulas, and after their texts
---     IsEarlyPiece r, IsSilentPiece r      no fault of a formula or of the verdict's line;  no line of a verdict was begun
 --     IsUnreadPiece r      a formula was not read whole
 --     GoesOn      a call writes more lines that a checker has accepted
 --     WrotePiece      lines were written after which the target clauses are stored
---     WritesShown, WritesEarly, WritesRead, WritesPiece      the lines that a run wrote: by its verdict, before its line, after two formulas, and after their texts
+--     WritesShown, WritesRead, WritesPiece      the lines that a run wrote: by its verdict, after two formulas, and after their texts
 --     TellsPieceLies      what is reported of both headers
 use Rattle.std.specs.Prelude.{◌≡◌, ℕ, List, length, Option, Some, None, Result, Ok, Err}
 use Rattle.std.specs.Option.{option_map}
@@ -20,22 +20,24 @@ use Rattle.sat_formula.specs.Whole.{FailsAfter}
 use Rattle.sat_output.specs.LineForms.{lines_in}
 use Rattle.sat_output.specs.declared.form.LineForm.{LineForm}
 use Rattle.sat_formula.specs.Lies.{IsLie}
-use Rattle.whole_writes.specs.Beginnings.{AppendsBeginning}
-use Rattle.verdicts.specs.Pieces.{piece_line}
 use Rattle.verdicts.specs.declared.piece.PieceVerdict.{PieceVerdict}
 use Rattle.verdicts.specs.declared.piece.PieceVerdict.TheVariants.{Refuted, Carried, NotCarried}
-use Rattle.drat_check.specs.declared.fault.RunFault.TheVariants.{Formula, Proof, Lrat, Trim, Core, Write}
+use Rattle.drat_check.specs.declared.fault.RunFault.TheVariants.{Formula, Proof, Lrat, Trim, Core}
 use Rattle.drat_check.specs.declared.piece_fault.PieceFault.{PieceFault}
 use Rattle.drat_check.specs.declared.piece_fault.PieceFault.TheVariants.{Run, Wanted, Lost}
 use Rattle.drat_check.specs.Outputs.{BeganLines, HasWritten, WroteProof}
-use Rattle.drat_check.specs.Runs.{IsCheckRun, IsEarly, IsProofRun, IsSilent}
+use Rattle.drat_check.specs.Runs.{IsAfterFormula, IsCheckRun}
+
+-- one of the piece, of an output or of the elaborator
+abbrev pub IsAfterFormulas : PieceFault → Type 0
+IsAfterFormulas (Run fault) = IsAfterFormula fault
+IsAfterFormulas (Wanted fault) = ⊥
+IsAfterFormulas Lost = Unit {0}
 
 -- the verdict is true; the formulas were there
 abbrev pub IsReadPieceRun : List (List ℕ) → List (List ℕ) → Result PieceVerdict PieceFault → Type 0
 IsReadPieceRun formula wanted (Ok verdict) = IsPieceShown formula wanted verdict
-IsReadPieceRun formula wanted (Err (Run fault)) = IsProofRun formula (Err fault)
-IsReadPieceRun formula wanted (Err (Wanted fault)) = ⊥
-IsReadPieceRun formula wanted (Err Lost) = Unit {0}
+IsReadPieceRun formula wanted (Err fault) = IsAfterFormulas fault
 
 -- the run over all texts: a formula that was not read whole is answered, the first one first
 abbrev pub IsPieceRun : Option (List ℕ) → Option (List ℕ) → Result PieceVerdict PieceFault → Type 0
@@ -45,20 +47,6 @@ IsPieceRun cnf holds (Err (Wanted fault)) = OfFormula cnf (λ formula. (clauses 
     × FailsAfter (option_map dimacs.outcome_of holds) clauses fault)
 IsPieceRun cnf holds (Err Lost) = OfFormulas cnf holds (λ formula wanted. Unit {0})
 
--- no fault but one that comes before the verdict's line and after the formulas
-abbrev pub IsEarlyPiece : {A : Type 0} → Result A PieceFault → Type 0
-IsEarlyPiece (Ok x) = Unit {0}
-IsEarlyPiece (Err (Run fault)) = IsEarly (Err fault)
-IsEarlyPiece (Err (Wanted fault)) = ⊥
-IsEarlyPiece (Err Lost) = Unit {0}
-
--- no line of a verdict was begun
-abbrev pub IsSilentPiece : Result PieceVerdict PieceFault → Type 0
-IsSilentPiece (Ok verdict) = ⊥
-IsSilentPiece (Err (Run fault)) = IsSilent (Err fault)
-IsSilentPiece (Err (Wanted fault)) = Unit {0}
-IsSilentPiece (Err Lost) = Unit {0}
-
 -- the formula or the target clauses were not read whole
 abbrev pub IsUnreadPiece : Result PieceVerdict PieceFault → Type 0
 IsUnreadPiece (Ok verdict) = ⊥
@@ -67,7 +55,6 @@ IsUnreadPiece (Err (Run (Proof fault))) = ⊥
 IsUnreadPiece (Err (Run (Lrat cause))) = ⊥
 IsUnreadPiece (Err (Run (Trim cause))) = ⊥
 IsUnreadPiece (Err (Run (Core cause))) = ⊥
-IsUnreadPiece (Err (Run (Write cause))) = ⊥
 IsUnreadPiece (Err (Wanted fault)) = Unit {0}
 IsUnreadPiece (Err Lost) = ⊥
 
@@ -99,49 +86,28 @@ module _ (form : LineForm) (formula wanted : List (List ℕ)) (lrat lrat' : Opti
   WritesShown Carried = WrotePiece form formula wanted lrat lrat'
   WritesShown NotCarried = lrat' ≡ lrat
 
-  -- what was written before the verdict's line
-  abbrev pub WritesEarly : Result PieceVerdict PieceFault → Type 0
-  WritesEarly (Ok verdict) = WritesShown verdict
-  WritesEarly (Err fault) = BeganLines form formula lrat lrat' None None
-
-  -- there was a true verdict: what it relies on was written, and a beginning of its line
-  pub record LeftPiece (old new : Option (List ℕ)) : Type 0 where
-    pub verdict : PieceVerdict
-    pub shown : IsPieceShown formula wanted verdict
-    pub stands : WritesShown verdict
-    pub begins : AppendsBeginning old new (piece_line verdict)
-
-  -- what a run wrote; of the verdict's line that which a write that failed has left
-  abbrev pub WritesRead : Option (List ℕ) → Option (List ℕ) → Result PieceVerdict PieceFault → Type 0
-  WritesRead old new (Ok verdict) = WritesShown verdict
-  WritesRead old new (Err (Wanted fault)) = ⊥
-  WritesRead old new (Err Lost) = BeganLines form formula lrat lrat' None None
-  WritesRead old new (Err (Run (Formula fault))) = ⊥
-  WritesRead old new (Err (Run (Proof fault))) = BeganLines form formula lrat lrat' None None
-  WritesRead old new (Err (Run (Lrat cause))) = BeganLines form formula lrat lrat' None None
-  WritesRead old new (Err (Run (Trim cause))) = BeganLines form formula lrat lrat' None None
-  WritesRead old new (Err (Run (Core cause))) = BeganLines form formula lrat lrat' None None
-  WritesRead old new (Err (Run (Write cause))) = LeftPiece old new
+  -- by what the run returned
+  abbrev pub WritesRead : Result PieceVerdict PieceFault → Type 0
+  WritesRead (Ok verdict) = WritesShown verdict
+  WritesRead (Err fault) = BeganLines form formula lrat lrat' None None
 
 -- the same after both texts; nothing is written where one is no formula
 abbrev pub WritesPiece : LineForm → Option (List ℕ) → Option (List ℕ) → Option (List ℕ) → Option (List ℕ)
-    → Option (List ℕ) → Option (List ℕ) → Result PieceVerdict PieceFault → Type 0
-WritesPiece form cnf holds lrat lrat' old new (Ok verdict) = OfFormulas cnf holds (λ formula wanted.
+    → Result PieceVerdict PieceFault → Type 0
+WritesPiece form cnf holds lrat lrat' (Ok verdict) = OfFormulas cnf holds (λ formula wanted.
     WritesShown form formula wanted lrat lrat' verdict)
-WritesPiece form cnf holds lrat lrat' old new (Err (Wanted fault)) = lrat' ≡ lrat
-WritesPiece form cnf holds lrat lrat' old new (Err Lost) = OfFormulas cnf holds (λ formula wanted.
+WritesPiece form cnf holds lrat lrat' (Err (Wanted fault)) = lrat' ≡ lrat
+WritesPiece form cnf holds lrat lrat' (Err Lost) = OfFormulas cnf holds (λ formula wanted.
     BeganLines form formula lrat lrat' None None)
-WritesPiece form cnf holds lrat lrat' old new (Err (Run (Formula fault))) = lrat' ≡ lrat
-WritesPiece form cnf holds lrat lrat' old new (Err (Run (Proof fault))) = OfFormulas cnf holds
+WritesPiece form cnf holds lrat lrat' (Err (Run (Formula fault))) = lrat' ≡ lrat
+WritesPiece form cnf holds lrat lrat' (Err (Run (Proof fault))) = OfFormulas cnf holds
     (λ formula wanted. BeganLines form formula lrat lrat' None None)
-WritesPiece form cnf holds lrat lrat' old new (Err (Run (Lrat cause))) = OfFormulas cnf holds
+WritesPiece form cnf holds lrat lrat' (Err (Run (Lrat cause))) = OfFormulas cnf holds
     (λ formula wanted. BeganLines form formula lrat lrat' None None)
-WritesPiece form cnf holds lrat lrat' old new (Err (Run (Trim cause))) = OfFormulas cnf holds
+WritesPiece form cnf holds lrat lrat' (Err (Run (Trim cause))) = OfFormulas cnf holds
     (λ formula wanted. BeganLines form formula lrat lrat' None None)
-WritesPiece form cnf holds lrat lrat' old new (Err (Run (Core cause))) = OfFormulas cnf holds
+WritesPiece form cnf holds lrat lrat' (Err (Run (Core cause))) = OfFormulas cnf holds
     (λ formula wanted. BeganLines form formula lrat lrat' None None)
-WritesPiece form cnf holds lrat lrat' old new (Err (Run (Write cause))) = OfFormulas cnf holds
-    (λ formula wanted. LeftPiece form formula wanted lrat lrat' old new)
 
 -- ---- headers
 
@@ -156,4 +122,3 @@ TellsPieceLies cnf holds before (Err (Run (Proof fault))) lie other = IsLie cnf 
 TellsPieceLies cnf holds before (Err (Run (Lrat cause))) lie other = IsLie cnf lie × IsLie holds other
 TellsPieceLies cnf holds before (Err (Run (Trim cause))) lie other = IsLie cnf lie × IsLie holds other
 TellsPieceLies cnf holds before (Err (Run (Core cause))) lie other = IsLie cnf lie × IsLie holds other
-TellsPieceLies cnf holds before (Err (Run (Write cause))) lie other = IsLie cnf lie × IsLie holds other

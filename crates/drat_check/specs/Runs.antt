@@ -1,7 +1,7 @@
 -- Runs of a DRAT or FRAT proof after a formula.
 --     IsShown formula verdict      a verdict that is true
+--     IsAfterFormula fault      one that comes once the formula was read
 --     IsProofRun, IsCheckRun      the run of a proof after a formula, and after a formula's text
---     IsEarly r, IsSilent r      the verdict's line did not fail;  no line of a verdict was begun
 --     HasNoFormula r      the text was not read whole as a formula
 --     RunTellsLie cnf r told      this is reported of the formula's header
 use Rattle.std.specs.Prelude.{◌≡◌, ℕ, List, Option, None, Result, Ok, Err}
@@ -14,22 +14,25 @@ use Rattle.verdicts.specs.Texts.{IsUnsatisfiable, OfFormula}
 use Rattle.verdicts.specs.declared.verdict.Verdict.{Verdict}
 use Rattle.verdicts.specs.declared.verdict.Verdict.TheVariants.{Verified, NotVerified}
 use Rattle.drat_check.specs.declared.fault.RunFault.{RunFault}
-use Rattle.drat_check.specs.declared.fault.RunFault.TheVariants.{Formula, Proof, Lrat, Trim, Core, Write}
+use Rattle.drat_check.specs.declared.fault.RunFault.TheVariants.{Formula, Proof, Lrat, Trim, Core}
 
 -- where it is verified, no assignment satisfies the formula
 abbrev pub IsShown : List (List ℕ) → Verdict → Type 0
 IsShown formula Verified = IsUnsatisfiable formula
 IsShown formula NotVerified = Unit {0}
 
+-- one of the proof, or of an output
+abbrev pub IsAfterFormula : RunFault → Type 0
+IsAfterFormula (Formula fault) = ⊥
+IsAfterFormula (Proof fault) = Unit {0}
+IsAfterFormula (Lrat cause) = Unit {0}
+IsAfterFormula (Trim cause) = Unit {0}
+IsAfterFormula (Core cause) = Unit {0}
+
 -- the verdict is true; the formula was there
 abbrev pub IsProofRun : List (List ℕ) → Result Verdict RunFault → Type 0
 IsProofRun formula (Ok verdict) = IsShown formula verdict
-IsProofRun formula (Err (Formula fault)) = ⊥
-IsProofRun formula (Err (Proof fault)) = Unit {0}
-IsProofRun formula (Err (Lrat cause)) = Unit {0}
-IsProofRun formula (Err (Trim cause)) = Unit {0}
-IsProofRun formula (Err (Core cause)) = Unit {0}
-IsProofRun formula (Err (Write cause)) = Unit {0}
+IsProofRun formula (Err fault) = IsAfterFormula fault
 
 -- the run over both texts: a formula that was not read whole is answered, and else the proof's run
 abbrev pub IsCheckRun : Option (List ℕ) → Result Verdict RunFault → Type 0
@@ -40,27 +43,6 @@ IsCheckRun cnf (Err (Proof fault)) = OfFormula cnf (λ formula. Unit {0})
 IsCheckRun cnf (Err (Lrat cause)) = OfFormula cnf (λ formula. Unit {0})
 IsCheckRun cnf (Err (Trim cause)) = OfFormula cnf (λ formula. Unit {0})
 IsCheckRun cnf (Err (Core cause)) = OfFormula cnf (λ formula. Unit {0})
-IsCheckRun cnf (Err (Write cause)) = OfFormula cnf (λ formula. Unit {0})
-
--- a verdict, or a fault that comes before its line
-abbrev pub IsEarly : Result Verdict RunFault → Type 0
-IsEarly (Ok verdict) = Unit {0}
-IsEarly (Err (Formula fault)) = ⊥
-IsEarly (Err (Proof fault)) = Unit {0}
-IsEarly (Err (Lrat cause)) = Unit {0}
-IsEarly (Err (Trim cause)) = Unit {0}
-IsEarly (Err (Core cause)) = Unit {0}
-IsEarly (Err (Write cause)) = ⊥
-
--- no line of a verdict was begun
-abbrev pub IsSilent : Result Verdict RunFault → Type 0
-IsSilent (Ok verdict) = ⊥
-IsSilent (Err (Formula fault)) = Unit {0}
-IsSilent (Err (Proof fault)) = Unit {0}
-IsSilent (Err (Lrat cause)) = Unit {0}
-IsSilent (Err (Trim cause)) = Unit {0}
-IsSilent (Err (Core cause)) = Unit {0}
-IsSilent (Err (Write cause)) = ⊥
 
 -- the formula was not read whole
 abbrev pub HasNoFormula : Result Verdict RunFault → Type 0
@@ -70,7 +52,6 @@ HasNoFormula (Err (Proof fault)) = ⊥
 HasNoFormula (Err (Lrat cause)) = ⊥
 HasNoFormula (Err (Trim cause)) = ⊥
 HasNoFormula (Err (Core cause)) = ⊥
-HasNoFormula (Err (Write cause)) = ⊥
 
 -- the mismatch of the header, if the formula was read whole; else nothing
 abbrev pub RunTellsLie : Option (List ℕ) → Result Verdict RunFault → Option LyingHeader → Type 0
@@ -80,4 +61,3 @@ RunTellsLie cnf (Err (Proof fault)) told = IsLie cnf told
 RunTellsLie cnf (Err (Lrat cause)) told = IsLie cnf told
 RunTellsLie cnf (Err (Trim cause)) told = IsLie cnf told
 RunTellsLie cnf (Err (Core cause)) told = IsLie cnf told
-RunTellsLie cnf (Err (Write cause)) told = IsLie cnf told

@@ -52,9 +52,6 @@ pub enum RunFault {
     /// The used clauses could not be written.
     #[error("error writing: {0}")]
     Core(io::Error),
-    /// The verdict was reached, but its line could not be written.
-    #[error("error writing: {0}")]
-    Write(io::Error),
 }
 
 impl From<DratFault> for ProofFault {

@@ -1,5 +1,5 @@
-//! Checks whether a DRAT, DPR, FRAT or LPR proof shows that a formula is unsatisfiable, or whether
-//! a piece of a proof derives its target clauses, and writes the verdict in one line.
+//! Whether a DRAT, DPR, FRAT or LPR proof shows that a formula is unsatisfiable, or whether one
+//! piece of a proof derives its target clauses.
 //!
 //! An elaborator that need not be trusted turns the proof into lines of an LRAT proof, and the
 //! checker of LRAT proofs checks each. The verdict is that checker's.

@@ -1,6 +1,6 @@
 //! What a run writes in addition to its verdict: the lines that the checker accepted, as LRAT and
 //! as DRAT, and the clauses of the formula that they use.
-ghost use Rattle.std.specs.Prelude.{◌≡◌, ◌∷◌, [], IfOk, OnErr, OnOk};
+ghost use Rattle.std.specs.Prelude.{◌≡◌, ◌∷◌, [], IfOk, None, OnErr, OnOk};
 ghost use Rattle.std.specs.Io.KnownBytes.{Appends, Keeps};
 ghost use Rattle.lrat_text.specs.NextLine.{view};
 ghost use Rattle.sat_output.specs.FormulaTexts.{formula_text};
@@ -21,7 +21,7 @@ use sat_output::{LineForm, number_after, write_formula, write_lrat_line};
 use std::alloc::{AllocError, Global};
 use std::cell::Cell;
 use std::io;
-use std::io::Write;
+use std::io::{Sink, Write};
 
 /// What a run writes in addition to its verdict, each if there is a writer for it, and what it
 /// counts.
@@ -37,6 +37,23 @@ pub struct Outputs<L, C> {
     pub core: Option<C>,
     /// What was counted so far. No contract constrains it.
     pub counts: Cell<RunCounts>,
+}
+
+impl Outputs<Sink, Sink> {
+    /// Returns those of a run that is asked for its verdict alone: none.
+    pub fn none() -> Outputs<Sink, Sink>
+        ensures lrat { result.lrat ≡ None }
+        ensures trim { result.trim ≡ None }
+        ensures core { result.core ≡ None }
+    {
+        Outputs {
+            lrat: None,
+            form: LineForm::Text,
+            trim: None,
+            core: None,
+            counts: Cell::default(),
+        }
+    }
 }
 
 /// Passes the elaborated lines to a checker that stores the formula, up to the empty clause, and

@@ -1,12 +1,11 @@
 //! Runs over one piece of a proof: its lines derive the target clauses from a formula.
-ghost use Rattle.std.specs.Prelude.{◌≡◌, ◌≢◌, ℕ, List, Option, Some, Ok, IfOk, IsNone, IsSome};
-ghost use Rattle.std.specs.Io.KnownBytes.{Appends, Keeps};
+ghost use Rattle.std.specs.Prelude.{◌≡◌, ◌≢◌, ℕ, List, Some, Ok, IfErr, IfOk, IsNone, IsSome};
+ghost use Rattle.std.specs.Io.KnownBytes.{Keeps};
 ghost use Rattle.sat_formula.specs.Refuted.{IsRefuted};
 ghost use Rattle.drat_check.specs.Outputs.{bytes_in};
-ghost use Rattle.verdicts.specs.Texts.{CarriesText, IsPieceShown};
+ghost use Rattle.verdicts.specs.Texts.{CarriesText};
 ghost use Rattle.drat_check.specs.PieceCores.{WritesCore, WritesPieceCore};
-ghost use Rattle.drat_check.specs.Pieces.{IsEarlyPiece, IsPieceRun, IsSilentPiece, TellsPieceLies, WritesEarly, WritesPiece};
-ghost use Rattle.verdicts.specs.Pieces.{piece_line};
+ghost use Rattle.drat_check.specs.Pieces.{IsAfterFormulas, IsPieceRun, IsReadPieceRun, TellsPieceLies, WritesPiece, WritesRead};
 ghost use Rattle.verdicts.specs.declared.piece.PieceVerdict.TheVariants.{Refuted, Carried, NotCarried};
 
 use crate::counts::{RunCounts, count_core};
@@ -24,7 +23,7 @@ use sat_output::LineForm;
 use std::alloc::Global;
 use std::cell::Cell;
 use std::io::{Read, Write};
-use verdicts::{MissingClause, PieceVerdict, write_piece_line};
+use verdicts::{MissingClause, PieceVerdict};
 
 /// What a run over a piece writes, counts and reports in addition to its verdict.
 #[derive(Drop)]
@@ -47,7 +46,7 @@ pub struct PieceOutputs<L, C> {
 }
 
 /// Reads a formula and the target clauses of a piece of a proof, both in DIMACS CNF, checks the
-/// piece, writes the verdict's line, and returns the verdict.
+/// piece, writes the outputs, and returns the verdict.
 ///
 /// The verdict is `Carried` if the piece leads to no conflict and each target clause is live after
 /// it: then some assignment satisfies all of them, if one satisfies the formula. A clause with the
@@ -60,14 +59,12 @@ pub struct PieceOutputs<L, C> {
 /// # Errors
 ///
 /// `Run` or `Wanted` with the first input that can't be read, the step that is rejected or the
-/// write that failed, or `Lost`. No line of a verdict is written then, except a beginning of it if
-/// the write of that line failed.
+/// write that failed, or `Lost`.
 pub fn run_piece<
     R: Log,
     F: Read + Drop,
     G: Read + Drop,
     P: Read + Drop,
-    W: Write,
     L: Write + Drop,
     C: Write + Drop,
 >(
@@ -78,30 +75,22 @@ pub fn run_piece<
     piece: P,
     format: ProofFormat,
     outputs: &mut PieceOutputs<L, C>,
-    out: &mut W,
 ) -> Result<PieceVerdict, PieceFault>
     ensures run { IsPieceRun (F.remaining cnf) (G.remaining holds) result }
-    ensures line { IfOk result (λ verdict.
-        Appends (W.contents out.old) (W.contents out.new) (piece_line verdict)) }
-    ensures silent { IsSilentPiece result → out.new ≡ out.old }
     ensures lines { IsNone outputs.old.core
         → WritesPiece outputs.old.form (F.remaining cnf) (G.remaining holds)
-        (bytes_in L.contents outputs.old.lrat) (bytes_in L.contents outputs.new.lrat)
-        (W.contents out.old) (W.contents out.new) result }
+        (bytes_in L.contents outputs.old.lrat) (bytes_in L.contents outputs.new.lrat) result }
     ensures apart { IsSome outputs.old.core → outputs.new.lrat ≡ outputs.old.lrat }
     ensures form { outputs.new.form ≡ outputs.old.form }
     ensures core { WritesPieceCore (F.remaining cnf) (G.remaining holds)
-        (bytes_in C.contents outputs.old.core) (bytes_in C.contents outputs.new.core)
-        (W.contents out.old) (W.contents out.new) result }
+        (bytes_in C.contents outputs.old.core) (bytes_in C.contents outputs.new.core) result }
     ensures carries { (text other : List ℕ) → F.remaining cnf ≡ Some text
         → G.remaining holds ≡ Some other → result ≡ Ok Carried → CarriesText text other }
     ensures refutes { (text : List ℕ) → F.remaining cnf ≡ Some text
         → result ≡ Ok Refuted → IsRefuted text }
     ensures lies { TellsPieceLies (F.remaining cnf) (G.remaining holds) outputs.old.wanted_lie result
         outputs.new.lie outputs.new.wanted_lie }
-    ensures kept { IfOk result (λ verdict. verdict ≢ NotCarried
-        → outputs.new.missing ≡ outputs.old.missing) }
-    ensures untold { IsSilentPiece result → outputs.new.missing ≡ outputs.old.missing }
+    ensures kept { result ≢ Ok NotCarried → outputs.new.missing ≡ outputs.old.missing }
 {
     let formula = match read_formula(alloc, cnf, &mut outputs.lie) {
         Ok(formula) => formula,
@@ -111,7 +100,7 @@ pub fn run_piece<
         Ok(wanted) => wanted,
         Err(fault) => return Err(PieceFault::Wanted(fault)),
     };
-    let judged = judge_piece(
+    judge_piece(
         rt,
         alloc,
         &formula,
@@ -120,16 +109,7 @@ pub fn run_piece<
         format,
         &mut Elaborator::new(alloc),
         outputs,
-    );
-    let verdict = match judged {
-        Ok(verdict) => verdict,
-        Err(fault) => return Err(fault),
-    };
-    rt.flush();
-    match write_piece_line(out, verdict) {
-        Ok(()) => Ok(verdict),
-        Err(fault) => Err(PieceFault::Run(RunFault::Write(fault))),
-    }
+    )
 }
 
 /// Returns what a piece shows, once the outputs are written. The lines are checked over the clauses
@@ -145,14 +125,12 @@ fn judge_piece<R: Log, P: Read + Drop, L: Write + Drop, C: Write + Drop>(
     elaborator: &mut Elaborator,
     outputs: &mut PieceOutputs<L, C>,
 ) -> Result<PieceVerdict, PieceFault>
-    ensures shown { IfOk result (IsPieceShown formula.now wanted.now) }
-    ensures early { IsEarlyPiece result }
-    ensures lines { IsNone outputs.old.core → WritesEarly outputs.old.form formula.now wanted.now
+    ensures run { IsReadPieceRun formula.now wanted.now result }
+    ensures lines { IsNone outputs.old.core → WritesRead outputs.old.form formula.now wanted.now
         (bytes_in L.contents outputs.old.lrat) (bytes_in L.contents outputs.new.lrat) result }
     ensures apart { IsSome outputs.old.core → outputs.new.lrat ≡ outputs.old.lrat }
-    ensures core { (old new : Option (List ℕ)) → WritesCore formula.now wanted.now
-        (bytes_in C.contents outputs.old.core) (bytes_in C.contents outputs.new.core)
-        old new result }
+    ensures core { WritesCore formula.now wanted.now
+        (bytes_in C.contents outputs.old.core) (bytes_in C.contents outputs.new.core) result }
     ensures form { outputs.new.form ≡ outputs.old.form }
     ensures lie { outputs.new.lie ≡ outputs.old.lie }
     ensures wanted_lie { outputs.new.wanted_lie ≡ outputs.old.wanted_lie }
@@ -219,10 +197,9 @@ pub(crate) fn show_piece<L: Write + Drop>(
     form: LineForm,
     counts: &Cell<RunCounts>,
 ) -> Result<PieceVerdict, PieceFault>
-    ensures shown { IfOk result (IsPieceShown formula.now wanted.now) }
+    ensures run { IsReadPieceRun formula.now wanted.now result }
     ensures decided { IfOk result (λ verdict. verdict ≢ NotCarried) }
-    ensures early { IsEarlyPiece result }
-    ensures lines { WritesEarly form formula.now wanted.now
+    ensures lines { WritesRead form formula.now wanted.now
         (bytes_in L.contents lrat.old) (bytes_in L.contents lrat.new) result }
 {
     let mut no_steps: Option<L> = None;
@@ -258,7 +235,7 @@ fn end_lines<L: Write>(
 ) -> Result<PieceVerdict, PieceFault>
     ensures verdict { IfOk result (λ answer. answer ≡ verdict) }
     ensures kept { Keeps (bytes_in L.contents lrat.old) (bytes_in L.contents lrat.new) }
-    ensures early { IsEarlyPiece result }
+    ensures fault { IfErr result IsAfterFormulas }
 {
     match flush(lrat) {
         Ok(()) => Ok(verdict),

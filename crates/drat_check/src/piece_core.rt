@@ -1,8 +1,7 @@
 //! The core of a piece of a proof: the clauses of the formula that its lines use. The lines are
 //! checked over the core alone.
-ghost use Rattle.std.specs.Prelude.{ℕ, List, Option};
 ghost use Rattle.drat_check.specs.PieceCores.{WritesCore};
-ghost use Rattle.drat_check.specs.Pieces.{IsEarlyPiece};
+ghost use Rattle.drat_check.specs.Pieces.{IsReadPieceRun};
 
 use crate::counts::RunCounts;
 use crate::fault::{ProofFault, RunFault};
@@ -27,9 +26,9 @@ pub(crate) fn show_core<C: Write + Drop>(
     core: &mut C,
     counts: &Cell<RunCounts>,
 ) -> Result<PieceVerdict, PieceFault>
-    ensures early { IsEarlyPiece result }
-    ensures core { (old new : Option (List ℕ)) → WritesCore formula.now wanted.now
-        (C.contents core.old) (C.contents core.new) old new result }
+    ensures run { IsReadPieceRun formula.now wanted.now result }
+    ensures core { WritesCore formula.now wanted.now
+        (C.contents core.old) (C.contents core.new) result }
 {
     let used = match used_clauses(alloc, formula, elaborator) {
         Ok(used) => used,

@@ -55,7 +55,7 @@ fn begin(formula: &CnfFormula, elaborator: &mut Elaborator) -> Result<(), ProofF
     Ok(())
 }
 
-/// Checks the steps that the conflict needs, backward.
+/// Checks the steps that the conflict needs, backward, and ends the report of its progress.
 pub(crate) fn elaborate<L: Log>(rt: &L, elaborator: &mut Elaborator) -> Result<(), ProofFault> {
     let steps = elaborator.steps_left();
     // Each call but the last goes over steps, of which there are fewer.
@@ -65,6 +65,7 @@ pub(crate) fn elaborate<L: Log>(rt: &L, elaborator: &mut Elaborator) -> Result<(
         }
         tell_checked(rt, elaborator, steps);
     }
+    rt.flush();
     Ok(())
 }
 

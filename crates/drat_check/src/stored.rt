@@ -1,6 +1,7 @@
 //! The ids of the target clauses of a piece of a proof.
+ghost use Rattle.std.specs.Prelude.{IfErr};
 ghost use Rattle.drat_check.specs.Outputs.{bytes_in};
-ghost use Rattle.drat_check.specs.Pieces.{GoesOn, IsEarlyPiece};
+ghost use Rattle.drat_check.specs.Pieces.{GoesOn, IsAfterFormulas};
 
 use crate::counts::{RunCounts, count_line};
 use crate::fault::{ProofFault, RunFault};
@@ -33,7 +34,7 @@ pub(crate) fn stored_ids<L: Write>(
 ) -> Result<Vec<u64>, PieceFault>
     ensures written { GoesOn form (bytes_in L.contents lrat.old) (bytes_in L.contents lrat.new)
         checker.old checker.new result }
-    ensures early { IsEarlyPiece result }
+    ensures fault { IfErr result IsAfterFormulas }
 {
     let mut ids = Vec::new(alloc);
     let mut last = elaborator.last_id();
@@ -68,7 +69,7 @@ fn id_as_written<L: Write>(
 ) -> Result<u64, PieceFault>
     ensures written { GoesOn form (bytes_in L.contents lrat.old) (bytes_in L.contents lrat.new)
         checker.old checker.new result }
-    ensures early { IsEarlyPiece result }
+    ensures fault { IfErr result IsAfterFormulas }
 {
     if is_stored(checker, found, clause) {
         return Ok(found);
@@ -100,7 +101,7 @@ fn add_copy<L: Write>(
 ) -> Result<(), PieceFault>
     ensures written { GoesOn form (bytes_in L.contents lrat.old) (bytes_in L.contents lrat.new)
         checker.old checker.new result }
-    ensures early { IsEarlyPiece result }
+    ensures fault { IfErr result IsAfterFormulas }
 {
     let hints = [Hint::Along(stored)];
     let line = LratLine::Add {

@@ -158,10 +158,10 @@ some_made (Some w) name same some = search rules
 some_made None (Some x) same some = absurd (cc)
 some_made None None same some = search rules
 
-core_of : (cnf holds clauses clauses' line line' : Option (List ℕ)) (verdict : PieceVerdict) → WritesPieceCore cnf holds clauses clauses' line line' (Ok verdict)
+core_of : (cnf holds clauses clauses' : Option (List ℕ)) (verdict : PieceVerdict) → WritesPieceCore cnf holds clauses clauses' (Ok verdict)
     → OfFormulas cnf holds (λ formula wanted. CoreShown formula wanted clauses clauses' verdict)
-core_of cnf holds clauses clauses' line line' verdict (inl of) = of
-core_of cnf holds clauses clauses' line line' verdict (inr unread) = absurd unread.0
+core_of cnf holds clauses clauses' verdict (inl of) = of
+core_of cnf holds clauses clauses' verdict (inr unread) = absurd unread.0
 
 core_known : (formula wanted : List (List ℕ)) (name core core' : Option (List ℕ)) (verdict : PieceVerdict) → core ≡ begun name
     → CoreShown formula wanted core core' verdict → IsKnown name core'
@@ -186,7 +186,7 @@ module _ {C : Type 0} (form : LineForm) (lrat lrat' cnf holds : Option (List ℕ
   lines_kept None apart run = (run (search rules)).holds.holds
 
 module _ {F C : Type 0} (contents : F → Option (List ℕ)) (unwritten : Option (List ℕ)) (place : List ℕ → Option (List ℕ)) (call : Call)
-    (core : Option C) (form : LineForm) (lrat lrat' clauses clauses' held target line line' : Option (List ℕ)) (old new : Given)
+    (core : Option C) (form : LineForm) (lrat lrat' clauses clauses' held target : Option (List ℕ)) (old new : Given)
     (untrimmed : trim_name (choices_of call) ≡ None)
     (lines_empty : unwritten ≡ Some [] → lrat ≡ begun (lrat_name (choices_of call)))
     (clauses_empty : unwritten ≡ Some [] → clauses ≡ begun (core_name (choices_of call)))
@@ -195,19 +195,19 @@ module _ {F C : Type 0} (contents : F → Option (List ℕ)) (unwritten : Option
   written = record { lrat = lrat'; trim = None; core = clauses' }
 
   -- what is left of a verdict that was not shown
-  pub piece_left : (r : Result PieceVerdict PieceFault) → (IsNone core → WritesPiece form held target lrat lrat' line line' r)
-      → WritesPieceCore held target clauses clauses' line line' r
+  pub piece_left : (r : Result PieceVerdict PieceFault) → (IsNone core → WritesPiece form held target lrat lrat' r)
+      → WritesPieceCore held target clauses clauses' r
       → LeavesReached place (choices_of call) written r old new → unwritten ≡ Some [] → NamesSome place (choices_of call) old new
   piece_left (Err fault) run used left fresh = names_none place (choices_of call) old new left
-  piece_left (Ok verdict) run used left fresh = let of = core_of held target clauses clauses' line line' verdict used in
+  piece_left (Ok verdict) run used left fresh = let of = core_of held target clauses clauses' verdict used in
       names_some place (choices_of call) old new written
       (lines_known form lrat lrat' held target (lrat_name (choices_of call)) core verdict (lines_empty fresh) apart run)
       (rw untrimmed tt)
       (core_known of.formula of.holds.formula (core_name (choices_of call)) clauses clauses' verdict (clauses_empty fresh) of.holds.holds) left
 
   names_piece : form ≡ form_asked (choices_of call) → is_some core ≡ is_some (core_name (choices_of call)) → unwritten ≡ Some [] → (verdict : PieceVerdict)
-      → (IsNone core → WritesPiece form held target lrat lrat' line line' (Ok verdict))
-      → WritesPieceCore held target clauses clauses' line line' (Ok verdict)
+      → (IsNone core → WritesPiece form held target lrat lrat' (Ok verdict))
+      → WritesPieceCore held target clauses clauses' (Ok verdict)
       → (named : Given) → GivesAll place (choices_of call) written old named
       → NamesPiece place (choices_of call) held target verdict old named
   names_piece formed wanted fresh verdict run used named gives = record {
@@ -215,23 +215,23 @@ module _ {F C : Type 0} (contents : F → Option (List ℕ)) (unwritten : Option
     core = clauses';
     lines = λ none. rw (← formed, ← lines_empty fresh) (run (none_made core (core_name (choices_of call)) wanted none));
     apart = λ some. apart (some_made core (core_name (choices_of call)) wanted some) ∙ lines_empty fresh;
-    used = rw (← clauses_empty fresh) (core_of held target clauses clauses' line line' verdict used);
+    used = rw (← clauses_empty fresh) (core_of held target clauses clauses' verdict used);
     named = gives;
   }
 
-  names_nothing : unwritten ≡ Some [] → (IsNone core → WritesPiece form held target lrat lrat' line line' (Ok NotCarried))
-      → WritesPieceCore held target clauses clauses' line line' (Ok NotCarried)
+  names_nothing : unwritten ≡ Some [] → (IsNone core → WritesPiece form held target lrat lrat' (Ok NotCarried))
+      → WritesPieceCore held target clauses clauses' (Ok NotCarried)
       → GivesAll place (choices_of call) written old new → GivesAll place (choices_of call) (empty_outputs (choices_of call)) old new
   names_nothing fresh run used gives =
       let lines : lrat' ≡ begun (lrat_name (choices_of call)) = lines_kept form lrat lrat' held target core apart run ∙ lines_empty fresh in
-      let kept : clauses' ≡ begun (core_name (choices_of call)) = (core_of held target clauses clauses' line line' NotCarried used).holds.holds ∙ clauses_empty fresh in
+      let kept : clauses' ≡ begun (core_name (choices_of call)) = (core_of held target clauses clauses' NotCarried used).holds.holds ∙ clauses_empty fresh in
       let none : None ≡ begun (trim_name (choices_of call)) = rw untrimmed refl in
       rw (← lines, ← kept, ← none) gives
 
   -- what a verdict shows, once all have their names
   pub piece_shown : (r : Result PieceVerdict PieceFault) (cnf holds : Option (List ℕ)) (receipt : Option F)
-      → (IsNone core → WritesPiece form held target lrat lrat' line line' r)
-      → WritesPieceCore held target clauses clauses' line line' r
+      → (IsNone core → WritesPiece form held target lrat lrat' r)
+      → WritesPieceCore held target clauses clauses' r
       → form ≡ form_asked (choices_of call) → is_some core ≡ is_some (core_name (choices_of call))
       → ((text : List ℕ) → cnf ≡ Some text → held ≡ Some text)
       → ((wanted : List ℕ) → holds ≡ Some wanted → target ≡ Some wanted)

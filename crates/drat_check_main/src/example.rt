@@ -5,11 +5,9 @@ ghost use Rattle.verdicts.specs.Statuses.{Ends, status_shown};
 
 use crate::shown::as_piece;
 use command::{Refusal, System, say_cause};
-use drat_check::{LineForm, Outputs, ProofFormat, run_check};
+use drat_check::{Outputs, ProofFormat, run_check};
 use log::sink::Discard;
-use std::cell::Cell;
-use std::io;
-use std::io::{Sink, Write};
+use std::io::Write;
 use verdicts::{Unshown, ended, show_line};
 
 /// Four clauses, one against each pair of values of two variables.
@@ -23,21 +21,13 @@ pub(crate) fn check_example<S: System, W: Write>(system: &S, out: &mut W) -> Res
     ensures ends { Ends piece_line (status_shown shows_wanted) IsOfWhole (Unit {0})
         (W.contents out.old) (W.contents out.new) result }
 {
-    let mut outputs: Outputs<Sink, Sink> = Outputs {
-        lrat: None,
-        form: LineForm::Text,
-        trim: None,
-        core: None,
-        counts: Cell::default(),
-    };
     let checked = run_check(
         &Discard,
         system.alloc(),
         FORMULA,
         PROOF,
         ProofFormat::Told,
-        &mut outputs,
-        &mut io::sink(),
+        &mut Outputs::none(),
         &mut None,
     );
     let outcome = show_line(as_piece(checked).map_err(Unshown::Fault), out);

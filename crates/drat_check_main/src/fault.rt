@@ -65,7 +65,6 @@ fn place_in_run<'a>(fault: &RunFault, format: ProofFormat, call: &'a Call<'_>) -
         RunFault::Lrat(_) => FaultPlace::Output(call.value("--lrat")),
         RunFault::Trim(_) => FaultPlace::Output(call.value("--trim")),
         RunFault::Core(_) => FaultPlace::Output(call.value("--core")),
-        RunFault::Write(_) => FaultPlace::Elsewhere,
     }
 }
 

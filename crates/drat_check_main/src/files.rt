@@ -15,7 +15,6 @@ use command::{
 };
 use drat_check::{ProofFormat, run_check};
 use receipt_files::{hold_digested, piece_receipt, whole_receipt};
-use std::io;
 use std::io::Write;
 use verdicts::ended;
 
@@ -58,7 +57,6 @@ pub(crate) fn check_files<'a, S: OutputSystem, W: Write>(
         proof,
         format,
         &mut outputs,
-        &mut io::sink(),
         &mut lie,
     );
     let checked = as_piece(checked);

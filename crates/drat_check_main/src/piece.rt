@@ -17,7 +17,6 @@ use command::{
 };
 use drat_check::{ProofFormat, run_piece};
 use receipt_files::{hold_digested, piece_receipt, whole_receipt};
-use std::io;
 use std::io::Write;
 use verdicts::ended;
 
@@ -68,7 +67,6 @@ pub(crate) fn check_piece<'a, S: OutputSystem, W: Write>(
         piece,
         format,
         &mut outputs,
-        &mut io::sink(),
     );
     let said = piece_receipt(digests, &checked);
     let receipt = whole_receipt(system, call, receipt, said, &checked)?;

@@ -2,17 +2,14 @@
 ghost use Rattle.std.specs.Prelude.{◌≡◌, true, IfOk};
 ghost use Rattle.refutation_rules.specs.Cubes.{IsRefuted};
 
-use drat_check::{LineForm, Outputs, ProofFormat, RunFault, run_proof};
+use drat_check::{Outputs, ProofFormat, RunFault, run_proof};
 use log::Log;
 use sat_formula::CnfFormula;
 use std::alloc::Global;
-use std::cell::Cell;
-use std::io;
-use std::io::{Read, Sink};
+use std::io::Read;
 use verdicts::Verdict;
 
-/// Returns whether a proof shows that a formula is unsatisfiable. The line of the verdict is
-/// discarded.
+/// Returns whether a proof shows that a formula is unsatisfiable.
 pub(crate) fn refute<R: Log, P: Read + Drop>(
     rt: &R,
     alloc: Global,
@@ -22,15 +19,7 @@ pub(crate) fn refute<R: Log, P: Read + Drop>(
 ) -> Result<bool, RunFault>
     ensures { IfOk result (λ refuted. refuted ≡ true → IsRefuted formula.now) }
 {
-    let mut outputs: Outputs<Sink, Sink> = Outputs {
-        lrat: None,
-        form: LineForm::Text,
-        trim: None,
-        core: None,
-        counts: Cell::default(),
-    };
-    let nowhere = &mut io::sink();
-    match run_proof(rt, alloc, formula, proof, format, &mut outputs, nowhere) {
+    match run_proof(rt, alloc, formula, proof, format, &mut Outputs::none()) {
         Ok(verdict) => Ok(verdict == Verdict::Verified),
         Err(fault) => Err(fault),
     }

@@ -11,7 +11,7 @@ returns-clause-refutes c = λ is. c.run_check-outcome.ensures.refutes c.args.cnf
 pub returns-clause-outputs : goal.returns-clause-outputs
 returns-clause-outputs c = λ is.
     let verified = drat_verified c.run_check-outcome.result (sym c.answer_to.ensures.status ∙ is) in
-    let written = both_written (λ line. None) c.sink.result c.run_check-outcome.new.out (Some c.args.cnf.now)
+    let written = both_written (Some c.args.cnf.now)
     (record { lrat = c.output.result; form = Text; trim = None; core = c.output-2.result; counts = _ }) c.run_check-outcome.new.outputs
     c.run_check-outcome.result verified c.run_check-outcome.ensures.outputs in
     record {

@@ -3,7 +3,6 @@ use Rattle.std.proofs.KnownBytes.{Keeps-refl}
 use Rattle.std.proofs.lemmas.Bool.{false_from_ne_true}
 use Rattle.verdicts.specs.declared.piece.PieceVerdict.TheVariants.{Refuted, Carried}
 use Rattle.drat_check.specs.Outputs.{bytes_in}
-use Rattle.verdicts.specs.Texts.{IsPieceShown}
 use Rattle.drat_check.proofs.WrittenLines.{began_after, wrote}
 use Rattle.drat_check.proofs.WrittenPieces.{began_without_steps, ended, shown_by, without_steps, wrote_piece}
 use Rattle.drat_check.proofs.piece.show_piece.Goals as goal
@@ -11,10 +10,10 @@ use Rattle.drat_check.proofs.piece.show_piece.Goals as goal
 pub returns-in-Err-clause-lines : goal.returns-in-Err-clause-lines
 returns-in-Err-clause-lines g c = began_without_steps c.in-Err.ensures.beginning
 
-pub returns-then-refuted-clause-shown : goal.returns-then-refuted-clause-shown
-returns-then-refuted-clause-shown g c =
+pub returns-then-refuted-clause-run : goal.returns-then-refuted-clause-run
+returns-then-refuted-clause-run g c =
     let written = c.in-Ok.ensures.whole in
-    shown_by (IsPieceShown c.args.formula.now c.args.wanted.now) c.end_lines.result Refuted c.end_lines.ensures.verdict
+    shown_by c.args.formula.now c.args.wanted.now c.end_lines.result Refuted c.end_lines.ensures.verdict c.end_lines.ensures.fault
     (λ a. false_from_ne_true _ (c.refuted.ensures.refutes c.args.formula.now written.lines written.ready.accepted c.if-refuted.true a))
 
 pub returns-then-refuted-clause-lines : goal.returns-then-refuted-clause-lines
@@ -32,10 +31,10 @@ returns-then-not-holds-clause-lines g c =
     let written = c.in-Ok-stored_ids.ensures.written c.args.formula.now (bytes_in g.L.Write.contents c.args.lrat.now) (without_steps c.in-Ok.ensures.whole) in
     began_after written (Keeps-refl (bytes_in g.L.Write.contents c.stored_ids.new.lrat)) tt
 
-pub returns-clause-shown : goal.returns-clause-shown
-returns-clause-shown g c =
+pub returns-clause-run : goal.returns-clause-run
+returns-clause-run g c =
     let written = c.in-Ok-stored_ids.ensures.written c.args.formula.now (bytes_in g.L.Write.contents c.args.lrat.now) (without_steps c.in-Ok.ensures.whole) in
-    shown_by (IsPieceShown c.args.formula.now c.args.wanted.now) c.end_lines-2.result Carried c.end_lines-2.ensures.verdict
+    shown_by c.args.formula.now c.args.wanted.now c.end_lines-2.result Carried c.end_lines-2.ensures.verdict c.end_lines-2.ensures.fault
     (c.holds.ensures.carries c.args.formula.now written.lines written.ready c.if-not-holds.false)
 
 pub returns-clause-lines : goal.returns-clause-lines

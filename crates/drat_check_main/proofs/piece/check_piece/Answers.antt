@@ -55,7 +55,7 @@ returns g c =
     record {
       ends = λ untrimmed. rw c.ended.ensures
           (ends_weaker piece_line (status_shown shows_wanted) _ _ _ _ _ _
-          (piece_shown contents unwritten place c.args.call.now c.of_piece-outputs.result.core c.of_piece-outputs.result.form lrat lrat' clauses clauses' held target _ _ old new
+          (piece_shown contents unwritten place c.args.call.now c.of_piece-outputs.result.core c.of_piece-outputs.result.form lrat lrat' clauses clauses' held target old new
           untrimmed lines_empty clauses_empty apart r cnf holds c.in_ok-receipt-2.receipt ran.lines ran.core
           (made.form ∙ c.in_ok-create_outputs.ensures.form) wanted_core
           (λ text known. ap Some (is text known)) (λ wanted other. ap Some (next wanted other))
@@ -68,7 +68,7 @@ returns g c =
           c.in_ok-receipt-2.ensures.written (carries_of text wanted) said (receipt_empty fresh) (status_in shows_wanted r Carried carried refl))
           (λ other. ok_none (c.in_ok-receipt-2.ensures.unshown other)))
           (λ left. leaves_failed unwritten place c.args.call.now old new c.show-outcome.result
-          (piece_left contents unwritten place c.args.call.now c.of_piece-outputs.result.core c.of_piece-outputs.result.form lrat lrat' clauses clauses' held target _ _ old new
+          (piece_left contents unwritten place c.args.call.now c.of_piece-outputs.result.core c.of_piece-outputs.result.form lrat lrat' clauses clauses' held target old new
           untrimmed lines_empty clauses_empty apart r ran.lines ran.core left))
           (ended_of shows_wanted c.show-outcome.result) (rw (same, whole) at c.show-outcome.ensures.ends));
     }

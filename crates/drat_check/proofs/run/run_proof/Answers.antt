@@ -1,5 +1,5 @@
 use Rattle.drat_check.proofs.WrittenLines.{began_before, refused}
-use Rattle.drat_check.proofs.run.verdict_of.Goals as goal
+use Rattle.drat_check.proofs.run.run_proof.Goals as goal
 
 pub returns-in-Err-clause-outputs : goal.returns-in-Err-clause-outputs
 returns-in-Err-clause-outputs g c =
