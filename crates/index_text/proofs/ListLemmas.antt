@@ -1,7 +1,7 @@
 -- Lists of parts, one after the other.
-use Rattle.std.proofs.Common.{◌≡◌, ℕ, Bool, true, false, not, List, [], ◌∷◌, ◌++◌, map, Option, Some, None, Result, Ok, Err, Bor, Vec, MatchOption, refl, ap, append_assoc, sym, ◌∙◌}
+use Rattle.std.proofs.Common.{◌≡◌, ℕ, Bool, true, false, List, [], ◌∷◌, ◌++◌, Option, Some, None, Result, Ok, Err, Bor, Vec, MatchOption, refl, ap, append_assoc, sym, ◌∙◌}
 use Rattle.std.specs.Prelude.{◌==◌, if◌then◌else◌}
-use Rattle.std.specs.List.{list_all, slice_split, onto_first}
+use Rattle.std.specs.List.{list_all, onto_first}
 use Rattle.index_text.specs.declared.class.Class.TheVariants.{Not}
 use Rattle.index_text.specs.declared.fault.IndexKind.{IndexKind}
 use Rattle.index_text.specs.Classes.{behind, is_of, leading}

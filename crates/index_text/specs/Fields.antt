@@ -1,7 +1,6 @@
 -- A field of an index: NAME: value.
 --     named_at entry      its name and its value
 use Rattle.std.specs.Prelude.{ℕ, Bool, false, not, ◌&&◌, List, [], ◌∷◌, Result, Ok, Err, ◌==◌, if◌then◌else◌}
-use Rattle.sat_formula.specs.Lines.{has_bytes}
 use Rattle.index_text.specs.declared.class.Class.TheVariants as classes
 use Rattle.index_text.specs.declared.fault.IndexKind.{IndexKind}
 use Rattle.index_text.specs.declared.fault.IndexKind.TheVariants.{NoField}

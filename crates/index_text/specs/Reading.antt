@@ -1,7 +1,7 @@
 -- What calls that read an index answer.
 --     relation_seen, relations_seen, groups_seen      what was read, with bytes in place of references to them
 --     Says seen said r, ReadsAs seen said r      the answer r, seen so, is what the text says;  or memory ran out
-use Rattle.std.specs.Prelude.{◌≡◌, ℕ, List, map, Result, Ok, Err, Vec}
+use Rattle.std.specs.Prelude.{◌≡◌, List, map, Result, Ok, Err, Vec}
 use Rattle.std.specs.Option.{option_map}
 use Rattle.std.specs.Global.{Global}
 use Rattle.sat_formula.specs.declared.stop.Stop.{Stop}

@@ -1,6 +1,6 @@
 -- A relation to a package, as the Debian Policy Manual has it: name[:qualifier] [(sign version)].
 --     relation_of text      what the text says, or its first fault
-use Rattle.std.specs.Prelude.{ℕ, Bool, true, false, not, ◌&&◌, ◌||◌, List, [], ◌∷◌, codes, Option, Some, None, Result, Ok, Err, ◌==◌, if◌then◌else◌}
+use Rattle.std.specs.Prelude.{ℕ, Bool, false, not, ◌&&◌, ◌||◌, List, [], ◌∷◌, codes, Option, Some, None, Result, Ok, Err, ◌==◌, if◌then◌else◌}
 use Rattle.std.specs.Str.{bytes_eq}
 use Rattle.sat_formula.specs.Lines.{has_bytes}
 use Rattle.index_text.specs.declared.class.Class.TheVariants as classes

@@ -1,6 +1,6 @@
 -- Versions of Debian packages, as deb-version(7) has them.
 --     is_version text      [epoch:]upstream[-revision]
-use Rattle.std.specs.Prelude.{ℕ, ◌-◌, Bool, true, false, not, ◌&&◌, List, [], ◌∷◌, length, slice_index, ◌==◌, if◌then◌else◌}
+use Rattle.std.specs.Prelude.{ℕ, ◌-◌, Bool, false, not, ◌&&◌, List, [], ◌∷◌, length, slice_index, ◌==◌, if◌then◌else◌}
 use Rattle.sat_formula.specs.Bytes.{is_digit}
 use Rattle.sat_formula.specs.Lines.{has_bytes}
 use Rattle.index_text.specs.declared.class.Class.TheVariants.{Digit, Version, EpochVersion}

@@ -1,11 +1,10 @@
 -- Faults of a part are faults of the whole.
-use Rattle.std.proofs.Common.{◌≡◌, ◌⊎◌, inl, inr, ℕ, ◌+◌, ◌*◌, ◌-◌, ◌^◌, true, false, nat_lt, List, ◌∷◌, ◌++◌, Option, Some, None, ◌<◌, Result, Err, length, drop, get_or, suc, sym, subst, ap, ◌∙◌, drop-cons, arith}
+use Rattle.std.proofs.Common.{◌≡◌, inl, inr, ℕ, ◌+◌, ◌*◌, ◌-◌, ◌^◌, true, false, nat_lt, List, ◌∷◌, ◌++◌, Option, Some, None, ◌<◌, Result, Err, length, drop, get_or, suc, sym, subst, ap, ◌∙◌, drop-cons, arith}
 use Rattle.std.specs.Prelude.{IfErr, IsErrAnd}
 use Rattle.std.proofs.lemmas.Result.{err_from_is_err_and}
-use Rattle.package_rules.specs.Debian.{behind_hyphen, epoch, is_digit, ranks, until_hyphen, without_epoch}
-use Rattle.packages.specs.Versions.{IsFaultOf, IsVersionFault, are_small, is_small}
+use Rattle.package_rules.specs.Debian.{behind_hyphen, is_digit, ranks, until_hyphen, without_epoch}
+use Rattle.packages.specs.Versions.{IsFaultOf, IsVersionFault, are_small}
 use Rattle.packages.specs.declared.fault.VersionFault.{VersionFault}
-use Rattle.packages.specs.declared.fault.VersionFault.TheVariants.{OutOfMemory, TooLarge}
 use Rattle.packages.proofs.Numbers.{among, at_digit}
 
 pub too_large : (n byte : ℕ) (number : Option ℕ) (cs : List ℕ) → number ≡ Some n → is_digit byte ≡ true → nat_lt (10 * n + (byte - 48)) (2 ^ 64) ≡ false →

@@ -1,7 +1,7 @@
 -- Packages as the definitions have them.
 --     package_of p      the package that was read
 --     group_of g, need_of d      a group of needs;  a need
-use Rattle.std.specs.Prelude.{ℕ, List, map, Option}
+use Rattle.std.specs.Prelude.{List, map}
 use Rattle.std.specs.Option.{option_map}
 use Rattle.package_rules.specs.Packages as rules
 use Rattle.packages.specs.declared.package.Bound.{Bound}

@@ -1,7 +1,7 @@
 -- Versions that were read.
 --     HasParts v version      its parts are those of the text
 --     IsVersionFault v fault      memory ran out, or a number of the text is too large
-use Rattle.std.specs.Prelude.{◌≡◌, ◌⊎◌, ℕ, suc, ◌+◌, ◌^◌, Bool, false, if◌then◌else◌, ◌&&◌, nat_eq, nat_lt, List, [], ◌∷◌, Option, Some, None}
+use Rattle.std.specs.Prelude.{◌≡◌, ◌⊎◌, ℕ, ◌+◌, ◌^◌, Bool, false, if◌then◌else◌, ◌&&◌, nat_eq, nat_lt, List, [], ◌∷◌, Option, Some, None}
 use Rattle.std.specs.List.{list_all}
 use Rattle.package_rules.specs.Debian.{behind_hyphen, epoch, ranks, until_hyphen, without_epoch}
 use Rattle.packages.specs.declared.fault.VersionFault.{VersionFault}

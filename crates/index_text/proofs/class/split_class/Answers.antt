@@ -1,6 +1,6 @@
-use Rattle.std.proofs.Common.{◌≡◌, sym, ◌∙◌}
+use Rattle.std.proofs.Common.{sym, ◌∙◌}
 use Rattle.index_text.specs.Classes.{is_of}
-use Rattle.index_text.proofs.ClassLemmas.{IsFront, behind-front, leading-front}
+use Rattle.index_text.proofs.ClassLemmas.{behind-front, leading-front}
 use Rattle.index_text.proofs.class.split_class.Goals as goal
 
 pub returns-clause-front : goal.returns-clause-front

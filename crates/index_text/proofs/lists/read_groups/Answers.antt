@@ -1,4 +1,4 @@
-use Rattle.std.proofs.Common.{◌≡◌, List, ◌∷◌, Result, Vec, ◌∙◌}
+use Rattle.std.proofs.Common.{Result, Vec, ◌∙◌}
 use Rattle.std.specs.Global.{Global}
 use Rattle.sat_formula.proofs.Exits.{exits}
 use Rattle.sat_formula.specs.declared.stop.Stop.{Stop}

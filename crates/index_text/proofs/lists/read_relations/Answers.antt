@@ -1,6 +1,6 @@
-use Rattle.std.proofs.Common.{◌≡◌, List, ◌∷◌, ◌∙◌}
+use Rattle.std.proofs.Common.{◌∙◌}
 use Rattle.sat_formula.proofs.Exits.{exits}
-use Rattle.index_text.specs.Lists.{parts_of, relations_in}
+use Rattle.index_text.specs.Lists.{relations_in}
 use Rattle.index_text.specs.Reading.{ReadsAs, relations_seen}
 use Rattle.index_text.specs.Relations.{relation_of}
 use Rattle.index_text.proofs.ListLemmas.{each_fails, each_last, each_on, relations-more, some_part}

@@ -1,4 +1,4 @@
-use Rattle.std.proofs.Common.{◌≡◌, ◌∙◌, ap, sym}
+use Rattle.std.proofs.Common.{◌∙◌, ap, sym}
 use Rattle.sat_formula.proofs.Exits.{exits}
 use Rattle.index_text.specs.Entries.{entries_of}
 use Rattle.index_text.specs.Stanzas.{SoFarSaid, stanzas_from, stanzas_of}

@@ -1,6 +1,4 @@
-use Rattle.std.proofs.Common.{◌≡◌, ◌<◌, None, IfSome, false, nat_eq, length, drop}
-use Rattle.std.specs.List.{position_from}
-use Rattle.package_rules.specs.Debian.{against_rest, compare_ranks, ranks}
+use Rattle.std.proofs.Common.{◌≡◌, ◌<◌, None, IfSome, drop}
 use Rattle.packages.specs.Versions.{last_hyphen}
 use Rattle.packages.proofs.parts.hyphen.Given as goal
 

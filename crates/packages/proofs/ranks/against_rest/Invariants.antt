@@ -1,7 +1,5 @@
-use Rattle.std.proofs.Common.{◌≡◌, ◌≤◌, ◌++◌, None, false, nat_eq, length, drop}
-use Rattle.std.specs.List.{position_from}
-use Rattle.package_rules.specs.Debian.{against_rest, compare_ranks, ranks}
-use Rattle.packages.specs.Versions.{last_hyphen}
+use Rattle.std.proofs.Common.{◌≡◌, drop}
+use Rattle.package_rules.specs.Debian.{against_rest}
 use Rattle.packages.proofs.ranks.against_rest.Given as goal
 
 abbrev pub invariant-loop-rank : goal.invariant-loop-rank
