@@ -299,6 +299,21 @@ case_cores() {
   . "$top/tests/checked/cores.sh"
 }
 
+case_slips() {
+  # shellcheck source=/dev/null
+  . "$top/tests/checked/slips.sh"
+}
+
+case_json() {
+  # shellcheck source=/dev/null
+  . "$top/tests/checked/json.sh"
+}
+
+case_limits() {
+  # shellcheck source=/dev/null
+  . "$top/tests/checked/limits.sh"
+}
+
 case_claims() {
   # shellcheck source=/dev/null
   . "$top/tests/checked/claims.sh"
