@@ -35,7 +35,8 @@ def main(role: str, words: List[str]) -> int:
     code = os.WEXITSTATUS(status)
     if os.WIFSIGNALED(status):
         code = os.WTERMSIG(status)
-        signal.signal(code, signal.SIG_DFL)
+        if code != signal.SIGKILL:
+            signal.signal(code, signal.SIG_DFL)
         os.kill(os.getpid(), code)
     return code
 
