@@ -17,7 +17,7 @@ fields 1 '' rejected 'the answer that the solver wrote is not verified' checked 
 fields 1 '' rejected 'clause is neither RUP nor RAT on its first literal' checked --json refuter other.cnf
 fields 1 '' 'no proof' 'was asked for no proof' checked --json --no-proof refuter four.cnf
 fields 3 '' 'no answer' 'it ended with status 0' checked --json quiet four.cnf
-fields 3 '' limit 'there is no verdict after 1 seconds' checked --json --limit 1 sleepy four.cnf
+fields 3 '' limit 'there is no verdict after 4 seconds' checked --json --limit 4 sleepy four.cnf
 printf 'p cnf 2 1\n1 x 0\n' > bad.cnf
 fields 2 '' malformed 'formula: line 2: bad number' checked --json refuter bad.cnf
 fields 2 '' call 'cannot open none.cnf' checked --json refuter none.cnf

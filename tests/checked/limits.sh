@@ -1,25 +1,37 @@
 # shellcheck shell=bash disable=SC2154,SC2034
 # A limit for both, or one for the solver and one for the checker; and what measures them. Read by tests/checked.sh.
 
-printf '#!/bin/sh\nsleep 2; exec drat_check "$@"\n' > slow_check
+# Where nothing but the header is asked of the formula, before the solver runs, it takes no time.
+printf '#!/bin/sh\n[ "$2" = /dev/null ] || sleep "${SLEEP:-60}"\nexec drat_check "$@"\n' > slow_check
 chmod +x slow_check
 solver slow_refuter << 'END'
-sleep 2; exec refuter "$@"
+sleep 3; exec refuter "$@"
 END
 
+# over CAUSE REASON CALL..: there is no verdict, since a limit is over
+over() {
+  local status=0 said
+  said=$("${@:3}" 2> err) || status=$?
+  if [[ $status != 3 || $said != *"\"status\": 3, \"cause\": \"$1\", \"reason\": [\"$2\"]}" ]]; then
+    printf '%s: status %d, it wrote: %s %s\n' "${*:3}" "$status" "$said" "$(cat err)"
+    wrong=1
+  fi
+  because "$2"
+  clean "${*:3}"
+}
+
 # one limit is for both together, and two count apart
-ends 3 '' env DRAT_CHECK=./slow_check checked --limit 3 slow_refuter four.cnf
-because 'there is no verdict after 3 seconds'
-ends 20 "$unsat" env DRAT_CHECK=./slow_check checked --limit 8 --check-limit 8 refuter four.cnf
-ends 3 '' checked --limit 0.5 --check-limit 60 slow_refuter four.cnf
-because 'the solver gave no answer within 0.5 seconds'
-# (the checker is also asked, before the solver runs, what is wrong with the formula: that is in the solver's time)
-ends 3 '' env DRAT_CHECK=./slow_check checked --limit 60 --check-limit=0.5 refuter four.cnf
-because 'the checker gave no verdict within 0.5 seconds'
-ends 3 '' env DRAT_CHECK=./slow_check checked --check-limit=0.5 refuter four.cnf
-because 'the checker gave no verdict within 0.5 seconds'
+over limit 'there is no verdict after 5 seconds' \
+  env DRAT_CHECK=./slow_check SLEEP=4 checked --json --limit 5 slow_refuter four.cnf
+ends 20 "$unsat" env DRAT_CHECK=./slow_check SLEEP=4 checked --limit 60 --check-limit 60 refuter four.cnf
+over limit 'the solver gave no answer within 4 seconds' checked --json --limit 4 --check-limit 60 sleepy four.cnf
+for limits in '--limit 60 --check-limit=2' '--check-limit=2'; do
+  # shellcheck disable=SC2086
+  over 'check limit' 'the checker gave no verdict within 2 seconds' \
+    env DRAT_CHECK=./slow_check checked --json $limits refuter four.cnf
+done
 ends 20 "$unsat" checked --limit 60 --check-limit 60 refuter four.cnf
-stopped - 3 checked --limit 2 --check-limit 60 slow four.cnf
+stopped - 3 checked --limit 4 --check-limit 60 slow four.cnf
 for value in 0 x 1.2.3 ''; do
   ends 2 '' checked --check-limit "$value" refuter four.cnf
   because '--check-limit takes a number'
