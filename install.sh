@@ -51,7 +51,7 @@ fi
 work=$(mktemp -d)
 trap 'rm -rf "$work"' EXIT
 mapfile -t programs < <(sed -n 's/^\([a-z0-9_]*\)_main:.*/\1/p' "$top/crates.txt")
-tools=(checked checked_all circuit_sweep cubes pieces proof_picture sessions verified)
+tools=(checked checked_all circuit_pdr circuit_sweep cubes pieces proof_picture sessions verified)
 source='built from sources'
 if [[ $mode == dist ]]; then
   if [[ ! -f $top/dist/PROVED ]]; then

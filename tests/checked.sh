@@ -29,7 +29,7 @@ if (($# == 0)); then
   exit "$wrong"
 fi
 
-on_path drat_check drat_cut join_check lrat_check model_check follows_check circuit_check
+on_path drat_check drat_cut join_check lrat_check model_check follows_check circuit_check minimal_check
 mkdir "$work/room"
 export TMPDIR=$work/room
 cd "$work"
@@ -297,6 +297,31 @@ case_stopped() {
 case_cores() {
   # shellcheck source=/dev/null
   . "$top/tests/checked/cores.sh"
+}
+
+case_slips() {
+  # shellcheck source=/dev/null
+  . "$top/tests/checked/slips.sh"
+}
+
+case_json() {
+  # shellcheck source=/dev/null
+  . "$top/tests/checked/json.sh"
+}
+
+case_limits() {
+  # shellcheck source=/dev/null
+  . "$top/tests/checked/limits.sh"
+}
+
+case_machines() {
+  # shellcheck source=/dev/null
+  . "$top/tests/checked/machines.sh"
+}
+
+case_minimal() {
+  # shellcheck source=/dev/null
+  . "$top/tests/checked/minimal.sh"
 }
 
 case_claims() {

@@ -10,10 +10,12 @@ mkdir "$work/room"
 export TMPDIR=$work/room
 cd "$work"
 
-# ends STATUS OUTPUT COMMAND..: it must end so, and write this to standard output; nothing is left where `checked` works
+# ends STATUS OUTPUT COMMAND..: it must end so, and write this to standard output, perhaps with a line of PAR2; nothing is left where
+# `checked` works
 ends() {
   local status=0 said
   said=$("${@:3}" 2> err) || status=$?
+  said=$(sed '/^PAR2: [0-9]*[.][0-9]\{3\} s, with [0-9.]* s as the limit$/d' <<< "$said")
   if [[ $status != "$1" || $said != "$2" || $(ls room) ]]; then
     printf '%s: status %d, it wrote: %s %s, it leaves %s\n' "${*:3}" "$status" "$said" "$(cat err)" "$(ls room)"
     wrong=1
@@ -29,10 +31,11 @@ because() {
   fi
 }
 
-# counts UNSAT SAT NO_ANSWER REJECTED: the summary
+# counts UNSAT SAT NO_ANSWER REJECTED [MALFORMED] [NOT_CHECKED]: the summary
 counts() {
-  local all=$(($1 + $2 + $3 + $4))
-  echo "$all formula$([[ $all == 1 ]] || echo s): $1 s VERIFIED UNSAT, $2 s VERIFIED SAT, $3 no answer, $4 rejected"
+  local all=$(($1 + $2 + $3 + $4 + ${5:-0} + ${6:-0}))
+  echo "$all formula$([[ $all == 1 ]] || echo s): $1 s VERIFIED UNSAT, $2 s VERIFIED SAT, $3 no answer, ${6:-0} not checked, $4 rejected," \
+    "${5:-0} malformed"
 }
 
 # solver NAME: a solver that is this script. It is called with its options, a formula, and a name for its proof.
@@ -161,6 +164,11 @@ case_solvers() {
 case_outcomes() {
   # shellcheck source=/dev/null
   . "$top/tests/checked_all/outcomes.sh"
+}
+
+case_measured() {
+  # shellcheck source=/dev/null
+  . "$top/tests/checked_all/measured.sh"
 }
 
 case_continued() {

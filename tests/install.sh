@@ -58,7 +58,7 @@ case_programs() {
     described "$name"
   done
   version=$("$prefix/bin/lrat_check" --version | cut -d ' ' -f 2-)
-  for name in checked checked_all circuit_sweep cubes pieces proof_picture sessions; do
+  for name in checked checked_all circuit_pdr circuit_sweep cubes pieces proof_picture sessions; do
     same "$name --version" "$name $version" "$("$prefix/bin/$name" --version)"
   done
 }

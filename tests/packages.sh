@@ -41,7 +41,7 @@ if [[ ! -f $dist/PROVED ]]; then
   done
 fi
 version=$(sed -n 's/^const VERSION: &str = "\([^ "]*\).*/\1/p' "$top/crates/command/src/status.rt")
-mapfile -t all < <(printf '%s\n' "${names[@]}" checked checked_all circuit_sweep cubes pieces proof_picture sessions verified | LC_ALL=C sort)
+mapfile -t all < <(printf '%s\n' "${names[@]}" checked checked_all circuit_pdr circuit_sweep cubes pieces proof_picture sessions verified | LC_ALL=C sort)
 
 # checkout FOLDER: a copy of this checkout without crates/, and with dist/
 checkout() {

@@ -8,6 +8,10 @@ case_parts() {
   PYTHONPATH=$top/lib python3 -B "$top/tests/python_package/parts.py" > "$work/said" 2>&1 || fault "$(cat "$work/said")"
 }
 
+case_answers() {
+  PYTHONPATH=$top/lib python3 -B "$top/tests/python_package/answers.py" > "$work/said" 2>&1 || fault "$(cat "$work/said")"
+}
+
 case_types() {
   only_with mypy
   (cd "$work" && mypy --strict --python-version 3.8 "$top/lib/cefindrato") > "$work/said" || fault "$(cat "$work/said")"

@@ -275,6 +275,7 @@ END
   many() {
     local status=0 said
     said=$(timeout 300 checked --all "$4" --solver "$5" --slurm --json random.json "${@:6}" 2> err) || status=$?
+    said=$(sed '/^PAR2: /d' <<< "$said")
     if [[ "$status $said" != "$1 $2" || $(sort solved 2> "$slurm/said" | tr '\n' ' ') != "$3" ]]; then
       printf 'checked --all --slurm %s: status %s, it wrote %s %s, and solved %s\n' "${*:4}" "$status" "$said" "$(cat err)" "$(cat solved)"
       wrong=1
@@ -308,21 +309,21 @@ END
   fi
   until_so 'the end of the job' quiet
   rm solved
-  many 3 '1 formula: 0 s VERIFIED UNSAT, 0 s VERIFIED SAT, 1 no answer, 0 rejected' '07.cnf ' random/07.cnf noting --limit 2
+  many 3 '1 formula: 0 s VERIFIED UNSAT, 0 s VERIFIED SAT, 1 no answer, 0 not checked, 0 rejected, 0 malformed' '07.cnf ' random/07.cnf noting --limit 2
   until_so 'the end of the job' quiet
   echo none > slow
-  many 0 "30 formulas: $refuted s VERIFIED UNSAT, $satisfied s VERIFIED SAT, 0 no answer, 0 rejected" '07.cnf ' 'random/*.cnf' noting --limit 100
+  many 0 "30 formulas: $refuted s VERIFIED UNSAT, $satisfied s VERIFIED SAT, 0 no answer, 0 not checked, 0 rejected, 0 malformed" '07.cnf ' 'random/*.cnf' noting --limit 100
   "${judged[@]}" rows random.json random.truth 's VERIFIED UNSAT' noting || wrong=1
   rows=30
   for name in picosat cryptominisat5; do
     if command -v "$name" > "$slurm/said"; then
-      many 0 "30 formulas: $refuted s VERIFIED UNSAT, $satisfied s VERIFIED SAT, 0 no answer, 0 rejected" '' 'random/*.cnf' "$name"
+      many 0 "30 formulas: $refuted s VERIFIED UNSAT, $satisfied s VERIFIED SAT, 0 no answer, 0 not checked, 0 rejected, 0 malformed" '' 'random/*.cnf' "$name"
       "${judged[@]}" rows random.json random.truth 's VERIFIED UNSAT' "$name" || wrong=1
       rows=$((rows + 30))
     fi
   done
   if command -v minisat > "$slurm/said"; then
-    many 1 "30 formulas: 0 s VERIFIED UNSAT, $satisfied s VERIFIED SAT, 0 no answer, $refuted rejected" '' 'random/*.cnf' minisat
+    many 1 "30 formulas: 0 s VERIFIED UNSAT, $satisfied s VERIFIED SAT, 0 no answer, 0 not checked, $refuted rejected, 0 malformed" '' 'random/*.cnf' minisat
     "${judged[@]}" rows random.json random.truth rejected minisat || wrong=1
     rows=$((rows + 30))
   fi

@@ -121,6 +121,15 @@ case_solvers() {
   done
 }
 
+# The backbone: of three options the second one is needed by both others, of which one is needed.
+case_backbone() {
+  on_path follows_check
+  only_with cadical
+  printf 'p cnf 4 4\n1 3 0\n-1 2 0\n-3 2 0\n-2 -4 0\n' > options.cnf
+  awk '$0 == "```sh backbone.sh" { on = 1; next } /^```/ { on = 0 } on' "$top/docs/USING.md" > backbone.sh
+  expect 0 $'2 is forced\n-4 is forced' '' -- sh -e backbone.sh
+}
+
 case_called() {
   for solver in cadical picosat cryptominisat5 minisat clasp z3; do
     if has "$solver"; then

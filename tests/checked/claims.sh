@@ -145,7 +145,7 @@ because 'is an input'
 
 # wrong calls
 ends 2 '' checked --never --same refutes one.aig two.aig
-because '--follows, --never, --same and --safe exclude each other'
+because '--follows, --never, --same, --safe and --minimal exclude each other'
 ends 2 '' checked --same refutes one.aig
 because '--same needs a solver and two circuits'
 ends 2 '' checked --follows forced.cnf

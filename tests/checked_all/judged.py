@@ -5,6 +5,11 @@ judged.py rows TABLE TRUTH REFUTED WORD.. of each formula the last row of the ca
 where the formula can't be satisfied
 judged.py last TABLE FIELD..              these fields of the last row
 judged.py edit TABLE NAME FIELD VALUE     the last row of this formula is edited
+judged.py apart TABLE PART..              of the last row each PART, as `solving 1 1 100`, took at least these seconds, seconds of a \
+processor and MB, and at most 20 s and 900 MB more
+judged.py table TABLE ROW..               writes rows NAME|OUTCOME|REASON|SECONDS; the checker took half a second where there are seconds
+judged.py again TABLE EDIT                each row is edited by this call of sed, and gets a new sum
+judged.py old TABLE OTHER                 writes the rows as a version wrote them that did not measure solver and checker apart
 """
 
 import hashlib
@@ -12,6 +17,7 @@ import json
 import os
 import random
 import shutil
+import subprocess
 import sys
 
 sys.path.append(os.path.dirname(os.path.dirname(os.path.abspath(__file__))))
@@ -79,12 +85,54 @@ def edit(table, name, field, value):
         file.writelines(json.dumps(it) + "\n" for it in lines)
 
 
+def apart(table, *parts):
+    row, wrong = rows_in(table)[-1], 0
+    for name, *least in (it.split() for it in parts):
+        took = [row[name]["seconds"], row[name]["processor"], row[name]["memory"] / 1e6]
+        if not all(int(low) <= it < int(low) + more for low, it, more in zip(least, took, (20, 20, 900))):
+            print(f"{name}: {took}")
+            wrong = 1
+    return wrong
+
+
+def summed(row):
+    return json.dumps({**row, "row": hashlib.sha256(json.dumps(row).encode()).hexdigest()}) + "\n"
+
+
+def took(seconds):
+    return {"seconds": seconds, "processor": seconds, "memory": 1_000_000}
+
+
+def table(name, *rows):
+    statuses = {"s VERIFIED UNSAT": 20, "s VERIFIED SAT": 10, "malformed": 2}
+    with open(name, "w", encoding="ascii") as file:
+        for formula, outcome, reason, seconds in (it.split("|") for it in rows):
+            row = {"formula": formula, "solver": ["made"], "options": [], "limit": 10.0, "check_limit": 20.0, "outcome": outcome, "reason": reason}
+            row.update(status=statuses.get(outcome, 3), **took(float(seconds or 0)))
+            row.update(solving=took(float(seconds)) if seconds else None, checking=took(0.5) if seconds else None, sums=[])
+            file.write(summed(row))
+
+
+def again(name, edit):
+    with open(name, encoding="ascii") as file:
+        lines = subprocess.run(["sed", edit], stdin=file, capture_output=True, text=True, check=True).stdout.splitlines()
+    with open(name, "w", encoding="ascii") as file:
+        file.writelines(summed({of: it for of, it in json.loads(line).items() if of != "row"}) for line in lines)
+
+
+def old(name, other):
+    later = ("check_limit", "solving", "checking", "row")
+    with open(other, "w", encoding="ascii") as file:
+        file.writelines(summed({of: it for of, it in row.items() if of not in later}) for row in rows_in(name))
+
+
 def main(call, *words):
     if call == "last":
         row = rows_in(words[0])[-1]
         print(*(row[it] for it in words[1:]), sep="\n")
         return 0
-    return {"make": make, "rows": rows, "edit": edit}[call](*words)
+    calls = {"make": make, "rows": rows, "edit": edit, "apart": apart, "table": table, "again": again, "old": old}
+    return calls[call](*words)
 
 
 sys.exit(main(*sys.argv[1:]))

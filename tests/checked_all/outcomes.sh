@@ -14,7 +14,7 @@ solver quiet << 'END'
 printf '1 0\n0\n' > "$2"; echo 's UNKNOWN'
 END
 ends 3 "$(counts 0 0 1 0)" checked_all four.cnf --solver quiet
-ends 3 "$(counts 1 0 1 0)" checked_all four.cnf bad.cnf --solver right
+ends 3 "$(counts 1 0 0 0 1)" checked_all four.cnf bad.cnf --solver right
 solver mixed << 'END'
 grep -q '^1 -2' "$1" && exec finder; exec quiet "$@"
 END
@@ -32,15 +32,15 @@ ends 3 "$(counts 0 0 1 0)" checked_all four.cnf --solver 'opted --odd two words'
 
 # The table, with the reasons, by names.
 ends 1 "$(counts 0 0 1 1)" checked_all other.cnf four.cnf --solver mixed --json mixed.json
-ends 3 "$(counts 0 0 1 0)" checked_all bad.cnf --solver mixed --json mixed.json
+ends 3 "$(counts 0 0 0 0 1)" checked_all bad.cnf --solver mixed --json mixed.json
 checked_all --report --json mixed.json > said || same 'the status of a report' 1 $?
 same 'the names of a report' $'formula\nbad.cnf\nfour.cnf\nother.cnf\n3' "$(sed 's/ .*//' said)"
 same 'the verdicts of a report' "verdict
-no answer: formula: line 2: bad number
+malformed: formula: line 2: bad number
 rejected: the answer that the solver wrote is not verified
 no answer: the solver gave no answer: it ended with status 0" \
-  "$(head -n 4 said | sed 's/^[^ ]* *[^ ]* *[^ ]* *[^ ]*  //')"
-same 'the summary of a report' "$(counts 0 0 2 1)" "$(tail -n 1 said)"
+  "$(head -n 4 said | sed 's/^\([^ ]*  *\)\{6\}//')"
+same 'the summary of a report' "$(counts 0 0 1 1 1)" "$(tail -n 1 said)"
 same 'a report after a run' "$(sed -n '1p;3,4p' said)"$'\n'"$(counts 0 0 1 1)" \
   "$(checked_all other.cnf four.cnf --solver mixed --json mixed.json --report)"
 

@@ -18,7 +18,7 @@ import aiger
 import cases
 import formulas
 from circuits import SOLVER, Runs
-from invariant import invariant
+from cefindrato.machines import invariant
 
 PARTS = ("init", "step", "bad")
 

@@ -19,7 +19,7 @@ import tempfile
 
 BLOCK = re.compile(r"^```\n(\$ .*?)^```$", re.MULTILINE | re.DOTALL)
 HELP_EXAMPLE = re.compile(r"^  \S.*:\n      (\S.*)$", re.MULTILINE)
-TOOLS = ("checked", "checked_all", "circuit_sweep", "cubes", "pieces", "proof_picture", "sessions", "verified")
+TOOLS = ("checked", "checked_all", "circuit_pdr", "circuit_sweep", "cubes", "pieces", "proof_picture", "sessions", "verified")
 
 # Files for the calls of `--help`: a formula that can't be satisfied with its proofs, and for `model_check` one that can be.
 REFUTED = b"p cnf 2 4\n1 2 0\n1 -2 0\n-1 2 0\n-1 -2 0\n"
@@ -51,6 +51,8 @@ CIRCUIT = b"aig 3 2 0 1 1\n6\n\x02\x02"
 # A latch that keeps its 0, and the circuit that says so.
 MACHINE = b"aig 1 0 1 1 0\n2\n2\n"
 INVARIANT = b"aig 1 1 0 1 0\n3\n"
+# The invariant of this machine as ABC writes it: no reached state is in the cube.
+ABC = b"#!/bin/sh\necho '1 1' > invariant.pla\n"
 # A latch that takes its input, and what makes it true.
 UNSAFE = b"aig 2 1 1 1 0\n2\n4\n"
 STIMULUS = b"1\nb0\n0\n1\n0\n.\n"
@@ -153,6 +155,7 @@ def furnish(room, program, call):
         "bin/written": written,
         "bin/solver": CADICAL.encode() if program == "checked" else b'#!/bin/sh\nexec cat "$(dirname "$0")/written"\n',
         "bin/cadical": CADICAL.encode(),
+        "bin/berkeley-abc": ABC,
     }
     if program == "checked_all":
         row = {**ROW, "row": hashlib.sha256(json.dumps(ROW).encode()).hexdigest()}
@@ -178,7 +181,7 @@ def wrong_calls(program, programs):
             furnish(room, program, call)
             path = os.pathsep.join((os.path.join(room, "bin"), os.path.abspath(programs), os.environ["PATH"]))
             run = subprocess.run(["bash", "-c", call], cwd=room, env={**os.environ, "PATH": path}, capture_output=True, text=True)
-            refuted = call.startswith(("checked ", "verified ", "circuit_sweep ")) and "--want" not in call or "| follows_check " in call
+            refuted = call.startswith(("checked ", "verified ", "circuit_pdr ", "circuit_sweep ")) and "--want" not in call or "| follows_check " in call
             well = run.returncode == (20 if refuted else 0)
             if not well or (run.stderr and "RUST_LOG" not in call):
                 wrong += 1
