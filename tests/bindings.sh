@@ -101,6 +101,30 @@ case_handles() {
   expect 0 "$queries" -- "$work/checker_example"
 }
 
+# Each cause of a header has a text of its own, which is that of Python.
+case_causes() {
+  only_with python3
+  for kind in checker session; do
+    mapfile -t numbers < <(sed -n '/^enum {$/,/^};$/s/^ *CEFINDRATO_\([A-Z_]*\) = \([0-9]*\).*/\1 \2/p' \
+      "$header/cefindrato_$kind.h" | sed '/^STEP_/d; s/.* //')
+    cc -std=c99 -Wall -Wextra -Werror -I"$header" -DKIND="$kind" -o "causes_of_$kind" "$own/causes.c" "$library"
+    "./causes_of_$kind" "${numbers[@]}" > texts
+    if ((${#numbers[@]} < 11)) || grep -q '^$' texts || [[ $(sort -u texts | wc -l) != "${#numbers[@]}" ]]; then
+      fault "causes of the $kind: ${numbers[*]} have the texts $(cat texts)"
+    fi
+    expect 0 '' -- "./causes_of_$kind" 0
+    PYTHONPATH=$top/bindings/python CEFINDRATO_LIBRARY=$prefix/lib/libcefindrato.so python3 - "$kind" "${numbers[@]}" << 'END'
+import importlib
+import sys
+
+with open("texts") as file:
+    texts = dict(zip(map(int, sys.argv[2:]), file.read().splitlines()))
+for number, text in importlib.import_module(f"cefindrato.{sys.argv[1]}")._CAUSES.items():
+    assert texts[number] == text.replace("clause {}", "a clause"), text
+END
+  done
+}
+
 case_memory() {
   "$work/memory"
 }
