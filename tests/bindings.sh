@@ -46,9 +46,10 @@ for name in session checker; do
   cc -std=c99 -O2 -Wall -Wextra -Werror -I"$header" -o "$work/$name" "$own/$name.c" "$library"
 done
 cc -std=c99 -O2 -Wall -Wextra -Werror -I"$header" -Wl,--wrap=malloc,--wrap=realloc -o "$work/memory" "$own/memory.c" "$library"
-mkdir "$work/bin"
-ln -s "$top/tools/checked" "$work/bin/"
-for program in drat_check lrat_check model_check session_check; do
+programs=$work/bin
+mkdir "$programs"
+ln -s "$top/tools/checked" "$programs/"
+for program in drat_check lrat_check model_check session_check varisat_check; do
   if [[ -x $top/crates/${program}_main/out/${program}_main ]]; then
     ln -s "$top/crates/${program}_main/out/${program}_main" "$work/bin/$program"
   else
@@ -185,20 +186,47 @@ case_rust() {
     set -e
     ((status == 0)) || fault "by $folder/cargo"
   done
+  [[ -x /usr/bin/cargo ]] || not_tried "the distribution's cargo is not installed"
   if cargo clippy --version > said 2>&1; then
-    cp -R "$top/bindings/rust" "$work/linted"
-    CARGO_TARGET_DIR=$work/lints quiet cargo clippy -q --manifest-path "$work/linted/Cargo.toml" -- -D clippy::incompatible_msrv
+    upstream_project "$work/linted"
+    CARGO_TARGET_DIR=$work/lints CARGO_NET_OFFLINE=true quiet cargo clippy -q --manifest-path "$work/linted/upstream/Cargo.toml" \
+      -- -D clippy::incompatible_msrv
   else
     not_tried 'clippy is not installed, the version of Rust that is needed'
+  fi
+}
+
+# upstream_project FOLDER: in it the crates, and a project that names those of upstream by their versions there, and has them from here.
+upstream_project() {
+  mkdir -p "$1/upstream" "$1/.cargo"
+  cp -R "$top/bindings/rust" "$1/crate"
+  rm -f "$1"/crate/*/Cargo.lock
+  cp "$own"/upstream/*.rs "$own/upstream/Cargo.toml" "$1/upstream/"
+  printf '[patch.crates-io]\n' > "$1/.cargo/config.toml"
+  for name in anyhow varisat-checker varisat-formula varisat-internal-proof; do
+    printf '%s = { path = "%s/crate/%s" }\n' "$name" "$1" "$name" >> "$1/.cargo/config.toml"
+  done
+}
+
+# Programs for the crate varisat-checker, over the library: each item once, what the ported checker with processors gives, and its proofs.
+of_upstream() {
+  local work=$1
+  quiet cargo test -q --manifest-path "$work/crate/varisat-checker/Cargo.toml"
+  quiet cargo build -q --manifest-path "$work/upstream/Cargo.toml"
+  "$work/target/debug/items"
+  "$work/target/debug/vectors" "$top"/crates/check_vectors/data/*
+  if [[ -x $programs/varisat_check ]]; then
+    python3 "$own/upstream/compare.py" "$work/target/debug/proofs" "$programs/varisat_check" "$top/tests/data" "${PROOFS:-20}"
+  else
+    not_tried 'varisat_check is not built'
   fi
 }
 
 # of_cargo FOLDER: the crate's own tests in a copy, and a project that names it by its path, which runs without the library's folder.
 of_cargo() {
   local work=$1
-  mkdir -p "$work"
+  upstream_project "$work"
   cd "$work"
-  cp -R "$top/bindings/rust" "$work/crate"
   export CARGO_TARGET_DIR=$work/target CARGO_NET_OFFLINE=true
   quiet cargo test -q --manifest-path "$work/crate/Cargo.toml"
   mkdir -p "$work/rust_project/src"
@@ -214,6 +242,7 @@ of_cargo() {
     ! grep -q '^  libcefindrato is not found: install it' said || grep -q panicked said; then
     fault "without a library: $(cat said)"
   fi
+  of_upstream "$work"
 }
 
 # Python: the package as it stands.

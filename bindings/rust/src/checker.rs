@@ -19,14 +19,14 @@
 //! # Ok::<(), cefindrato::checker::CheckerError>(())
 //! ```
 use crate::library;
-pub use crate::lit::Lit;
+pub use crate::lit::{Lit, Var};
 use std::fmt;
 
 /// The hash of a clause.
 pub type ClauseHash = u64;
 
-/// The hash of the literal of a code.
-fn lit_code_hash(code: usize) -> ClauseHash {
+/// The hash of the literal of a code; of a literal without a solver name, of its code plus 2^29.
+pub fn lit_code_hash(code: usize) -> ClauseHash {
     (!(code as u64)).wrapping_mul(0x61c8_8646_80b5_83eb)
 }
 

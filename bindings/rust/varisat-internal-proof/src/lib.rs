@@ -1,0 +1,93 @@
+//! Steps of proofs and their bytes, by the names of the crate `varisat-internal-proof` 0.2.2, as far as `varisat-checker` needs them.
+#![warn(missing_docs)]
+
+pub mod binary_format;
+
+pub use cefindrato::checker::{clause_hash, lit_code_hash, ClauseHash, DeleteClauseProof};
+use varisat_formula::{Lit, Var};
+
+/// The hash of a literal that has a solver name.
+pub fn lit_hash(lit: Lit) -> ClauseHash {
+    lit_code_hash(lit.code())
+}
+
+/// A step of a proof.
+#[derive(Copy, Clone, Debug, PartialEq, Eq)]
+pub enum ProofStep<'a> {
+    /// Changes the name by which hashes know a variable; it counts from the next check on.
+    SolverVarName {
+        /// The variable.
+        global: Var,
+        /// Its name, or none any more.
+        solver: Option<Var>,
+    },
+    /// Changes the name by which the solver's caller knows a variable.
+    UserVarName {
+        /// The variable.
+        global: Var,
+        /// Its name, or none any more: then it is hidden.
+        user: Option<Var>,
+    },
+    /// Deletes a variable that no clause with two literals or more has, and no name.
+    DeleteVar {
+        /// The variable, which may get another meaning.
+        var: Var,
+    },
+    /// Changes whether models are sampled over a variable.
+    ChangeSamplingMode {
+        /// The variable.
+        var: Var,
+        /// Whether they are.
+        sample: bool,
+    },
+    /// Adds an input clause.
+    AddClause {
+        /// Its literals.
+        clause: &'a [Lit],
+    },
+    /// Adds a lemma. It has the literal of a unit clause, or with all its literals false, propagation leads to a conflict.
+    AtClause {
+        /// Whether it may be deleted at any time.
+        redundant: bool,
+        /// Its literals.
+        clause: &'a [Lit],
+        /// The hashes of the clauses that propagate.
+        propagation_hashes: &'a [ClauseHash],
+    },
+    /// Adds unit clauses, each of which follows from units and one other clause.
+    UnitClauses {
+        /// Each with the hash of that clause.
+        units: &'a [(Lit, ClauseHash)],
+    },
+    /// Deletes a clause with two literals or more.
+    DeleteClause {
+        /// Its literals.
+        clause: &'a [Lit],
+        /// Why it may be deleted.
+        proof: DeleteClauseProof,
+    },
+    /// Changes the width of hashes.
+    ChangeHashBits {
+        /// How many bits a hash has, from 1 to 64.
+        bits: u32,
+    },
+    /// Some assignment satisfies the clauses and assumptions, and makes these literals true.
+    Model {
+        /// The literals.
+        assignment: &'a [Lit],
+    },
+    /// Assumes literals from here on, in place of earlier ones.
+    Assumptions {
+        /// The literals.
+        assumptions: &'a [Lit],
+    },
+    /// No assignment satisfies the clauses and makes these literals true.
+    FailedAssumptions {
+        /// The literals, which are assumed.
+        failed_core: &'a [Lit],
+        /// The hashes of the clauses that propagate.
+        propagation_hashes: &'a [ClauseHash],
+    },
+    /// Ends the proof.
+    End,
+}
