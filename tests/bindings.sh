@@ -106,23 +106,18 @@ case_handles() {
 case_causes() {
   only_with python3
   for kind in checker session; do
-    mapfile -t numbers < <(sed -n '/^enum {$/,/^};$/s/^ *CEFINDRATO_\([A-Z_]*\) = \([0-9]*\).*/\1 \2/p' \
-      "$header/cefindrato_$kind.h" | sed '/^STEP_/d; s/.* //')
-    cc -std=c99 -Wall -Wextra -Werror -I"$header" -DKIND="$kind" -o "causes_of_$kind" "$own/causes.c" "$library"
-    "./causes_of_$kind" "${numbers[@]}" > texts
-    if ((${#numbers[@]} < 11)) || grep -q '^$' texts || [[ $(sort -u texts | wc -l) != "${#numbers[@]}" ]]; then
+    constants=$(sed -n '/^enum {$/,/^};$/s/^ *CEFINDRATO_\([A-Z_]* = [0-9]*\).*/\1/p' \
+      "$header/cefindrato_$kind.h")
+    mapfile -t numbers < <(sed '/^STEP_/d; s/.* = //' <<< "$constants")
+    cc -std=c99 -Wall -Wextra -Werror -I"$header" -DKIND="$kind" -o causes "$own/causes.c" "$library"
+    ./causes "${numbers[@]}" > texts
+    if ((${#numbers[@]} < 11)) || grep -q '^$' texts ||
+      [[ $(sort -u texts | wc -l) != "${#numbers[@]}" ]]; then
       fault "causes of the $kind: ${numbers[*]} have the texts $(cat texts)"
     fi
-    expect 0 '' -- "./causes_of_$kind" 0
-    PYTHONPATH=$top/bindings/python CEFINDRATO_LIBRARY=$prefix/lib/libcefindrato.so python3 - "$kind" "${numbers[@]}" << 'END'
-import importlib
-import sys
-
-with open("texts") as file:
-    texts = dict(zip(map(int, sys.argv[2:]), file.read().splitlines()))
-for number, text in importlib.import_module(f"cefindrato.{sys.argv[1]}")._CAUSES.items():
-    assert texts[number] == text.replace("clause {}", "a clause"), text
-END
+    expect 0 '' -- ./causes 0
+    CEFINDRATO_LIBRARY=$prefix/lib/libcefindrato.so PYTHONPATH=$top/bindings/python \
+      python3 "$own/causes.py" "$kind" texts "${numbers[@]}"
   done
 }
 
@@ -189,14 +184,18 @@ case_rust() {
   [[ -x /usr/bin/cargo ]] || not_tried "the distribution's cargo is not installed"
   if cargo clippy --version > said 2>&1; then
     upstream_project "$work/linted"
-    CARGO_TARGET_DIR=$work/lints CARGO_NET_OFFLINE=true quiet cargo clippy -q --manifest-path "$work/linted/upstream/Cargo.toml" \
-      -- -D clippy::incompatible_msrv
+    cd "$work/linted"
+    for manifest in crate/Cargo.toml crate/*/Cargo.toml; do
+      CARGO_TARGET_DIR=$work/lints CARGO_NET_OFFLINE=true quiet \
+        cargo clippy -q --manifest-path "$manifest" -- -D clippy::incompatible_msrv
+    done
   else
     not_tried 'clippy is not installed, the version of Rust that is needed'
   fi
 }
 
-# upstream_project FOLDER: in it the crates, and a project that names those of upstream by their versions there, and has them from here.
+# upstream_project FOLDER: in it the crates, and a project that names those of upstream by their
+# versions there, and has them from here.
 upstream_project() {
   mkdir -p "$1/upstream" "$1/.cargo"
   cp -R "$top/bindings/rust" "$1/crate"
@@ -208,7 +207,8 @@ upstream_project() {
   done
 }
 
-# Programs for the crate varisat-checker, over the library: each item once, what the ported checker with processors gives, and its proofs.
+# Programs for the crate varisat-checker, over the library: each item once, what the ported checker
+# with processors gives, and proofs as by its program.
 of_upstream() {
   local work=$1
   quiet cargo test -q --manifest-path "$work/crate/varisat-checker/Cargo.toml"
@@ -216,7 +216,8 @@ of_upstream() {
   "$work/target/debug/items"
   "$work/target/debug/vectors" "$top"/crates/check_vectors/data/*
   if [[ -x $programs/varisat_check ]]; then
-    python3 "$own/upstream/compare.py" "$work/target/debug/proofs" "$programs/varisat_check" "$top/tests/data" "${PROOFS:-20}"
+    python3 "$own/upstream/compare.py" "$work/target/debug/proofs" "$programs/varisat_check" \
+      "$top/tests/data" "${PROOFS:-20}"
   else
     not_tried 'varisat_check is not built'
   fi

@@ -129,9 +129,10 @@ def check(cnf: Text, proof: Text) -> bool:
 def check_drat(cnf: Text, proof: Text, format: str = "detected", lrat: bool = False, core: bool = False) -> Checked:
     """What the DRAT, DPR or FRAT proof, text or binary, or the LPR text, shows of the formula; a Fault where it is rejected.
 
-    The format is `drat`, `frat` or `lpr`, or `detected` from the first bytes of the proof; the deprecated name of this is `told`. Where
-    the proof is verified there are also what is wanted of `lrat`, the proof as LRAT text, and `core`, the clauses that it uses as DIMACS
-    text. LRAT text that is longer than eight times the proof and a megabyte has the proof checked twice.
+    The format is `drat`, `frat` or `lpr`, or `detected` from the first bytes of the proof, whose
+    deprecated name is `told`. Where the proof is verified there are also what is wanted of `lrat`,
+    the proof as LRAT text, and `core`, the clauses that it uses as DIMACS text. LRAT text that is
+    longer than eight times the proof and a megabyte has the proof checked twice.
     """
     format = _FORMER.get(format, format)
     if format not in FORMATS:

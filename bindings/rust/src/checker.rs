@@ -1,4 +1,5 @@
-//! The ported checker of varisat's proofs, step by step, under the names of the crate `varisat-checker`.
+//! The ported checker of varisat's proofs, step by step, under the names of the crate `varisat-checker`. The crate of that name in the
+//! folder `varisat-checker` has its whole interface, over this module.
 //!
 //! A lemma or a failed core names the clauses that it needs by their hashes, in the order of propagation. A unit clause is known
 //! without a hash.

@@ -97,10 +97,10 @@ where
     }
 }
 
-/// Whether they have the same number of variables and the same clauses in the same order.
+/// Whether they have the same clauses in the same order.
 impl PartialEq for CnfFormula {
     fn eq(&self, other: &CnfFormula) -> bool {
-        self.var_count == other.var_count && self.iter().eq(other.iter())
+        self.iter().eq(other.iter())
     }
 }
 

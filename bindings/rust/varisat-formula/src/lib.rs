@@ -1,4 +1,6 @@
 //! Literals, variables and formulas, by the names of the crate `varisat-formula` 0.2.2, as far as `varisat-checker` needs them.
+//!
+//! The sources of that crate were not at hand: how its types print, and which of them are equal, may differ.
 #![warn(missing_docs)]
 
 pub mod cnf;
