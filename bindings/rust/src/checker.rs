@@ -20,7 +20,7 @@
 //! # Ok::<(), cefindrato::checker::CheckerError>(())
 //! ```
 use crate::library;
-pub use crate::lit::{Lit, Var};
+pub use crate::lit::Lit;
 use std::fmt;
 
 /// The hash of a clause.

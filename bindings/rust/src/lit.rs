@@ -1,86 +1,11 @@
-//! Variables and literals, by their DIMACS numbers.
-use std::cmp::Ordering;
+//! Literals, by their DIMACS numbers.
 use std::fmt;
-use std::ops::{BitXor, Not};
+use std::ops::Not;
 
 /// The greatest DIMACS number of a variable.
-const MOST: usize = 1 << 28;
+const MOST: isize = 1 << 28;
 
-/// A variable, named by its index.
-#[derive(Clone, Copy, PartialEq, Eq, PartialOrd, Ord, Hash)]
-pub struct Var(u32);
-
-impl Var {
-    /// How many variables there can be.
-    pub const fn max_count() -> usize {
-        MOST
-    }
-
-    /// The variable with the greatest index.
-    pub const fn max_var() -> Var {
-        Var(MOST as u32 - 1)
-    }
-
-    /// The variable of an index, counted from 0.
-    ///
-    /// # Panics
-    ///
-    /// If the index is not below [`Var::max_count`].
-    pub fn from_index(index: usize) -> Var {
-        assert!(index < MOST, "{index} is the index of no variable");
-        Var(index as u32)
-    }
-
-    /// The variable of a DIMACS number.
-    ///
-    /// # Panics
-    ///
-    /// If the number is below 1 or above [`Var::max_count`].
-    pub fn from_dimacs(number: isize) -> Var {
-        assert!(0 < number && number <= MOST as isize, "{number} is no variable");
-        Var(number as u32 - 1)
-    }
-
-    /// Its index, counted from 0.
-    pub const fn index(self) -> usize {
-        self.0 as usize
-    }
-
-    /// Its DIMACS number.
-    pub const fn to_dimacs(self) -> isize {
-        self.0 as isize + 1
-    }
-
-    /// Its literal: itself if `polarity` is true, else its negation.
-    pub fn lit(self, polarity: bool) -> Lit {
-        let number = self.to_dimacs() as i32;
-        Lit(if polarity { number } else { -number })
-    }
-
-    /// The literal that is the variable itself.
-    pub fn positive(self) -> Lit {
-        self.lit(true)
-    }
-
-    /// The literal that is its negation.
-    pub fn negative(self) -> Lit {
-        self.lit(false)
-    }
-}
-
-impl fmt::Debug for Var {
-    fn fmt(&self, f: &mut fmt::Formatter<'_>) -> fmt::Result {
-        fmt::Display::fmt(self, f)
-    }
-}
-
-impl fmt::Display for Var {
-    fn fmt(&self, f: &mut fmt::Formatter<'_>) -> fmt::Result {
-        self.to_dimacs().fmt(f)
-    }
-}
-
-/// A variable or its negation. Literals are ordered by their codes.
+/// A variable or its negation.
 #[derive(Clone, Copy, PartialEq, Eq, Hash)]
 #[repr(transparent)]
 pub struct Lit(i32);
@@ -92,41 +17,18 @@ impl Lit {
     ///
     /// If the number is 0, or beyond 2^28 on either side.
     pub fn from_dimacs(number: isize) -> Lit {
-        assert!(number != 0 && number.unsigned_abs() <= MOST, "{number} is no literal");
+        assert!(number != 0 && (-MOST..=MOST).contains(&number), "{number} is no literal");
         Lit(number as i32)
-    }
-
-    /// The literal of a variable: itself if `polarity` is true, else its negation.
-    pub fn from_var(var: Var, polarity: bool) -> Lit {
-        var.lit(polarity)
-    }
-
-    /// The literal that is the variable itself.
-    pub fn positive(var: Var) -> Lit {
-        var.positive()
-    }
-
-    /// The literal that is the negation of the variable.
-    pub fn negative(var: Var) -> Lit {
-        var.negative()
-    }
-
-    /// The literal of the variable of an index.
-    ///
-    /// # Panics
-    ///
-    /// As [`Var::from_index`].
-    pub fn from_index(index: usize, polarity: bool) -> Lit {
-        Var::from_index(index).lit(polarity)
     }
 
     /// The literal of a code.
     ///
     /// # Panics
     ///
-    /// If the code is not below twice [`Var::max_count`].
+    /// If the code is 2^29 or more.
     pub fn from_code(code: usize) -> Lit {
-        Lit::from_index(code >> 1, code & 1 == 0)
+        let number = code as isize / 2 + 1;
+        Lit::from_dimacs(if code % 2 == 0 { number } else { -number })
     }
 
     /// Its DIMACS number.
@@ -134,19 +36,9 @@ impl Lit {
         self.0 as isize
     }
 
-    /// The index of its variable.
-    pub fn index(self) -> usize {
-        self.0.unsigned_abs() as usize - 1
-    }
-
-    /// Its variable.
-    pub fn var(self) -> Var {
-        Var(self.0.unsigned_abs() - 1)
-    }
-
     /// Its code: twice the number of its variable, counted from 0, and 1 more if it is negative.
     pub fn code(self) -> usize {
-        2 * self.index() + usize::from(self.is_negative())
+        2 * (self.0.unsigned_abs() as usize - 1) + usize::from(self.is_negative())
     }
 
     /// Whether it is the negation of a variable.
@@ -158,11 +50,6 @@ impl Lit {
     pub fn is_positive(self) -> bool {
         self.0 > 0
     }
-
-    /// The literal of another variable, with the same sign.
-    pub fn map_var(self, f: impl FnOnce(Var) -> Var) -> Lit {
-        f(self.var()).lit(self.is_positive())
-    }
 }
 
 impl Not for Lit {
@@ -170,37 +57,6 @@ impl Not for Lit {
 
     fn not(self) -> Lit {
         Lit(-self.0)
-    }
-}
-
-/// The negation if the right side is true, else the literal.
-impl BitXor<bool> for Lit {
-    type Output = Lit;
-
-    fn bitxor(self, negates: bool) -> Lit {
-        if negates {
-            !self
-        } else {
-            self
-        }
-    }
-}
-
-impl From<Var> for Lit {
-    fn from(var: Var) -> Lit {
-        var.positive()
-    }
-}
-
-impl PartialOrd for Lit {
-    fn partial_cmp(&self, other: &Lit) -> Option<Ordering> {
-        Some(self.cmp(other))
-    }
-}
-
-impl Ord for Lit {
-    fn cmp(&self, other: &Lit) -> Ordering {
-        self.code().cmp(&other.code())
     }
 }
 

@@ -8,7 +8,7 @@ use varisat_checker::{
     ProofTranscriptProcessor, ProofTranscriptStep, ResolutionPropagations,
 };
 use varisat_formula::{cnf_formula, lit, lits, CnfFormula, ExtendFormula, Lit, Var};
-use varisat_internal_proof::{clause_hash, DeleteClauseProof, ProofStep};
+use varisat_internal_proof::{clause_hash, lit_code_hash, lit_hash, ClauseHash, DeleteClauseProof, ProofStep};
 
 /// Lines of steps, and how many it takes before it fails.
 #[derive(Default)]
@@ -99,6 +99,12 @@ fn signatures() {
     is_error::<CheckerError>();
 }
 
+/// The hash of a clause whose variables have no solver names.
+fn hash(clause: &[Lit]) -> ClauseHash {
+    let of_lit = |lit: &Lit| lit_code_hash(lit.code() + 2 * Var::max_count());
+    clause.iter().fold(0, |hash, lit| hash ^ of_lit(lit))
+}
+
 /// All kinds of step, with what is seen of them.
 fn steps() -> Result<(), Error> {
     let (mut seen, mut transcript) = (Seen::default(), Seen::default());
@@ -108,7 +114,8 @@ fn steps() -> Result<(), Error> {
     let mut formula: CnfFormula = cnf_formula![1, 2; 1, -2; 2, 1; 3, -3];
     formula.add_clause(&lits![4, 5]);
     checker.add_formula(&formula)?;
-    let hashes = [clause_hash(&lits![1, 2]), clause_hash(&lits![1, -2])];
+    let hashes = [hash(&lits![1, 2]), hash(&lits![1, -2])];
+    assert_eq!(clause_hash(&lits![1, 2]), lit_hash(lit!(1)) ^ lit_hash(lit!(2)));
     let (name, var) = (Some(Var::from_dimacs(7)), Var::from_dimacs(6));
     let two = lits![4, 5];
     for step in [

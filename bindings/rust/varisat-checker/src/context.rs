@@ -48,7 +48,7 @@ impl Context<'_> {
 
     /// Makes the variables of literals known.
     pub fn ensure(&mut self, lits: &[Lit]) -> Result<(), CheckerError> {
-        let greatest = lits.iter().map(|lit| lit.var()).max();
+        let greatest = lits.iter().map(|lit| lit.var()).max_by_key(|var| var.index());
         greatest.map_or(Ok(()), |var| self.ensure_var(var))
     }
 
@@ -64,7 +64,7 @@ impl Context<'_> {
     }
 
     /// Literals as the library has them.
-    pub fn numbered(&self, lits: &[Lit]) -> Result<Vec<Lit>, CheckerError> {
+    pub fn numbered(&self, lits: &[Lit]) -> Result<Vec<library::Lit>, CheckerError> {
         self.variables.numbered(lits).map_err(|none| self.out_of_numbers(none))
     }
 

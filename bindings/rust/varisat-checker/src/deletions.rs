@@ -4,8 +4,10 @@ use crate::processing::CheckedProofStep;
 use crate::sorted_lits::canonical;
 use crate::store::Deleted;
 use crate::CheckerError;
-use cefindrato::checker::{CheckCause, DeleteClauseProof, ProofStep};
+use cefindrato::checker as library;
+use library::{CheckCause, ProofStep};
 use varisat_formula::Lit;
+use varisat_internal_proof::DeleteClauseProof;
 
 impl Context<'_> {
     /// Checks the deletion of a clause.
@@ -16,7 +18,8 @@ impl Context<'_> {
         }
         let numbered = self.numbered(&lits)?;
         let mut is_justified = true;
-        let outcome = self.judge(ProofStep::DeleteClause { clause: &numbered, proof }, |context, cause| {
+        let step = ProofStep::DeleteClause { clause: &numbered, proof: library_proof(proof) };
+        let outcome = self.judge(step, |context, cause| {
             is_justified = !matches!(cause, CheckCause::NotSatisfied | CheckCause::NotSubsumed);
             context.text_of_deletion(cause, clause, &lits)
         });
@@ -60,5 +63,13 @@ impl Context<'_> {
             }
             _ => cause.to_string(),
         }
+    }
+}
+
+fn library_proof(proof: DeleteClauseProof) -> library::DeleteClauseProof {
+    match proof {
+        DeleteClauseProof::Redundant => library::DeleteClauseProof::Redundant,
+        DeleteClauseProof::Satisfied => library::DeleteClauseProof::Satisfied,
+        DeleteClauseProof::Simplified => library::DeleteClauseProof::Simplified,
     }
 }

@@ -1,4 +1,5 @@
 //! The hashes by which a proof names clauses: of its own width, and by its own names of variables.
+use cefindrato::checker as library;
 use std::collections::HashMap;
 use std::mem::take;
 use varisat_formula::{Lit, Var};
@@ -31,7 +32,7 @@ impl ClauseHasher {
 
     /// Whether its hashes are those of the library.
     pub fn is_plain(&self) -> bool {
-        self.width == 64 && self.names.is_empty()
+        self.width == 64 && self.names.is_empty() && lit_code_hash(0) == library::lit_code_hash(0)
     }
 
     pub fn rename(&mut self, global: Var, name: Option<Var>) {

@@ -8,20 +8,24 @@
 //!
 //! - reading proofs and formulas;
 //! - names, modes and deletions of variables, and the width of hashes, of which the library has no steps: they claim nothing of clauses.
-//!   A variable that is deleted with its unit clause gets another number in the library, and the library the hash of each clause that a
-//!   proof names by another one. Derived units are redundant lemmas there;
+//!   A variable that is deleted with its unit clause gets another number in the library. Derived units are redundant lemmas there. The
+//!   hashes by which a proof names clauses are translated to those of the library;
 //! - what processors get: the ids of clauses, and the propagations, which are found again along the hashes that the library accepted.
+//!
+//! # Where types and bytes come from
+//!
+//! Literals and formulas are those of `varisat-formula`, errors those of `anyhow`, steps and the bytes of proofs those of
+//! `varisat-internal-proof`, as upstream. For builds without a network the folder `offline` has a part of each, and with these alone
+//! this crate was tried. There, proofs are [those of the ported checker](../../../../docs/reference/FORMATS.md#proof-bytes), and a file
+//! that varisat has written is not read.
 //!
 //! # Differences
 //!
-//! Steps are those of the ported checker, which differs from the crate `varisat-checker` in what
+//! Steps are judged as by the ported checker, which differs from upstream in what
 //! [DIFFERENCES](../../../../docs/reference/DIFFERENCES.md) lists under "Results that changed" and "Where the crate panics", and by
-//! `OutOfMemory` and `Failed`. The types, their fields and the texts of errors are those of the crate. But:
+//! `OutOfMemory` and `Failed`. Malformed DIMACS text is a [`DimacsFault`]. Nothing is logged. [`CheckerData`] shows no field.
 //!
-//! - Proofs are in the format of the [ported checker](../../../../docs/reference/FORMATS.md#proof-bytes). Files that varisat has written
-//!   have another one, which is not read.
-//! - Malformed DIMACS text is a [`DimacsFault`]. Nothing is logged. [`CheckerData`] shows no field.
-//! - What a clause takes here comes on top of what it takes in the library, and each variable up to the greatest one takes 16 bytes here.
+//! What a clause takes here comes on top of what it takes in the library, and each variable up to the greatest one takes 16 bytes here.
 //!
 //! # Example
 //!

@@ -20,12 +20,7 @@ impl Context<'_> {
 
     /// Makes all variables that are known here known to the library, by a tautology.
     fn tell_variables(&mut self) -> Result<(), CheckerError> {
-        let greatest = match self.variables.greatest_number() {
-            Some(greatest) => greatest,
-            None => return Ok(()),
-        };
-        let clause = [greatest.positive(), greatest.negative()];
-        let outcome = self.library.add_clause(&clause);
+        let outcome = self.variables.greatest().map_or(Ok(()), |tautology| self.library.add_clause(&tautology));
         outcome.map_err(|fault| self.fault_of(fault, |_, cause| cause.to_string()))
     }
 

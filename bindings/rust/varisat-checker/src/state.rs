@@ -2,8 +2,9 @@
 use crate::context::Context;
 use crate::processing::CheckedProofStep;
 use crate::CheckerError;
+use anyhow::Error;
 use std::io::{self, ErrorKind};
-use varisat_internal_proof::binary_format::{Parser, StepFault};
+use varisat_internal_proof::binary_format::Parser;
 use varisat_internal_proof::ProofStep;
 
 impl Context<'_> {
@@ -68,13 +69,13 @@ impl Context<'_> {
     }
 
     /// Counts a step that was not read.
-    fn unread(&mut self, fault: StepFault) -> CheckerError {
+    fn unread(&mut self, fault: Error) -> CheckerError {
         self.step += 1;
         let step = self.step;
-        match fault {
-            StepFault::Io(cause) if cause.kind() == ErrorKind::UnexpectedEof => CheckerError::ProofIncomplete { step },
-            StepFault::Io(cause) => CheckerError::IoError { step, cause },
-            StepFault::Malformed(cause) => CheckerError::ParseError { step, cause: cause.into() },
+        match fault.downcast::<io::Error>() {
+            Ok(cause) if cause.kind() == ErrorKind::UnexpectedEof => CheckerError::ProofIncomplete { step },
+            Ok(cause) => CheckerError::IoError { step, cause },
+            Err(cause) => CheckerError::ParseError { step, cause },
         }
     }
 

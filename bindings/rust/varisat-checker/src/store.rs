@@ -2,7 +2,7 @@
 //!
 //! A clause has two hashes: that by which the library knows it, and that by which the proof names it.
 use crate::hash::ClauseHasher;
-use cefindrato::checker::clause_hash;
+use cefindrato::checker as library;
 use std::collections::{BTreeMap, HashMap};
 use varisat_formula::{Lit, Var};
 use varisat_internal_proof::ClauseHash;
@@ -38,7 +38,6 @@ pub(crate) enum Deleted {
 
 type Buckets = HashMap<ClauseHash, Vec<u64>>;
 
-#[derive(Default)]
 pub(crate) struct Store {
     pub hasher: ClauseHasher,
     next_id: u64,
@@ -53,6 +52,23 @@ pub(crate) struct Store {
     occurrences: HashMap<Var, usize>,
     /// The ids of two opposite units.
     pub conflict: Option<[u64; 2]>,
+}
+
+impl Default for Store {
+    fn default() -> Store {
+        let hasher = ClauseHasher::default();
+        Store {
+            named: if hasher.is_plain() { None } else { Some(Buckets::new()) },
+            hasher,
+            next_id: 0,
+            clauses: BTreeMap::new(),
+            buckets: Buckets::new(),
+            is_renumbered: false,
+            units: HashMap::new(),
+            occurrences: HashMap::new(),
+            conflict: None,
+        }
+    }
 }
 
 impl Store {
@@ -85,11 +101,11 @@ impl Store {
     }
 
     /// Stores a canonical clause that is no tautology; `numbered` are its literals in the library.
-    pub fn add(&mut self, lits: &[Lit], numbered: &[Lit], redundant: bool) -> (u64, Stored) {
+    pub fn add(&mut self, lits: &[Lit], numbered: &[library::Lit], redundant: bool) -> (u64, Stored) {
         match *lits {
             [] => (self.take_id(), Stored::New),
             [lit] => self.add_unit(lit),
-            _ => self.add_longer(lits, clause_hash(numbered), redundant),
+            _ => self.add_longer(lits, library::clause_hash(numbered), redundant),
         }
     }
 
@@ -135,8 +151,8 @@ impl Store {
     }
 
     /// Deletes a copy of a canonical clause. None if there is no copy of this kind.
-    pub fn delete(&mut self, lits: &[Lit], numbered: &[Lit], redundant: bool) -> Option<(u64, Deleted)> {
-        let id = self.find(lits, clause_hash(numbered))?;
+    pub fn delete(&mut self, lits: &[Lit], numbered: &[library::Lit], redundant: bool) -> Option<(u64, Deleted)> {
+        let id = self.find(lits, library::clause_hash(numbered))?;
         let copies = &mut self.clauses.get_mut(&id)?.copies;
         let count = &mut copies[usize::from(redundant)];
         *count = count.checked_sub(1)?;

@@ -1,4 +1,5 @@
 //! The variables of a proof: their names and modes, and their numbers in the library.
+use cefindrato::checker as library;
 use std::collections::HashSet;
 use varisat_formula::{Lit, Var};
 
@@ -35,9 +36,9 @@ impl Variables {
             return Ok(());
         }
         let last = self.number_of(var)?;
-        let first = self.vars.len() + self.renewed;
+        let first = (self.vars.len() + self.renewed) as u32;
         let numbered = |number| VarData { user_var: None, sampling_mode: SamplingMode::Sample, number };
-        self.vars.extend((first as u32..=last.index() as u32).map(numbered));
+        self.vars.extend((first..=last).map(numbered));
         Ok(())
     }
 
@@ -93,23 +94,28 @@ impl Variables {
         Ok(())
     }
 
-    /// The number in the library; of an unknown variable, the one that it would get.
-    fn number_of(&self, var: Var) -> Result<Var, NoNumber> {
-        let number = self.get(var).map_or(var.index() + self.renewed, |data| data.number as usize);
-        if number < Var::max_count() {
-            Ok(Var::from_index(number))
-        } else {
-            Err(NoNumber)
+    /// The number in the library, counted from 0; of an unknown variable, the one that it would get.
+    fn number_of(&self, var: Var) -> Result<u32, NoNumber> {
+        match self.get(var) {
+            Some(data) => Ok(data.number),
+            None if var.index() + self.renewed < Var::max_count() => Ok((var.index() + self.renewed) as u32),
+            None => Err(NoNumber),
         }
     }
 
     /// Literals as the library has them.
-    pub fn numbered(&self, lits: &[Lit]) -> Result<Vec<Lit>, NoNumber> {
-        lits.iter().map(|lit| Ok(self.number_of(lit.var())?.lit(lit.is_positive()))).collect()
+    pub fn numbered(&self, lits: &[Lit]) -> Result<Vec<library::Lit>, NoNumber> {
+        let numbered = |lit: &Lit| Ok(library_lit(self.number_of(lit.var())?, lit.is_negative()));
+        lits.iter().map(numbered).collect()
     }
 
-    /// The greatest number that a known variable has in the library.
-    pub fn greatest_number(&self) -> Option<Var> {
-        (self.vars.len() + self.renewed).checked_sub(1).map(Var::from_index)
+    /// The literals of the known variable that has the greatest number in the library.
+    pub fn greatest(&self) -> Option<[library::Lit; 2]> {
+        let greatest = (self.vars.len() + self.renewed).checked_sub(1)? as u32;
+        Some([library_lit(greatest, false), library_lit(greatest, true)])
     }
+}
+
+fn library_lit(number: u32, is_negative: bool) -> library::Lit {
+    library::Lit::from_code(2 * number as usize + usize::from(is_negative))
 }

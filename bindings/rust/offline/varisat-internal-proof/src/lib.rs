@@ -1,14 +1,41 @@
-//! Steps of proofs and their bytes, by the names of the crate `varisat-internal-proof` 0.2.2, as far as `varisat-checker` needs them.
+//! Steps of proofs and their bytes, by the names of the crate `varisat-internal-proof` 0.2.2, as far as `varisat-checker` needs them: it is
+//! here so that that one builds without a network.
+//!
+//! The sources of that crate were not at hand: here are the bytes and the hash of literals of
+//! [the ported checker](../../../../../docs/reference/FORMATS.md#proof-bytes), which are others.
 #![warn(missing_docs)]
 
 pub mod binary_format;
 
-pub use cefindrato::checker::{clause_hash, lit_code_hash, ClauseHash, DeleteClauseProof};
 use varisat_formula::{Lit, Var};
+
+/// The hash of a clause.
+pub type ClauseHash = u64;
+
+/// The hash of the literal of a code.
+pub fn lit_code_hash(code: usize) -> ClauseHash {
+    (code as u64 + 1).wrapping_mul(0x9E37_79B9_7F4A_7C15)
+}
 
 /// The hash of a literal that has a solver name.
 pub fn lit_hash(lit: Lit) -> ClauseHash {
     lit_code_hash(lit.code())
+}
+
+/// The hash of a clause without repeated literals, whose variables have solver names.
+pub fn clause_hash(lits: &[Lit]) -> ClauseHash {
+    lits.iter().fold(0, |hash, lit| hash ^ lit_hash(*lit))
+}
+
+/// Why an irredundant clause may be deleted, or that the clause is redundant.
+#[derive(Copy, Clone, Debug, PartialEq, Eq)]
+pub enum DeleteClauseProof {
+    /// It is redundant.
+    Redundant,
+    /// It has the literal of a unit clause.
+    Satisfied,
+    /// The last irredundant lemma is a proper part of it, and nothing was deleted since.
+    Simplified,
 }
 
 /// A step of a proof.

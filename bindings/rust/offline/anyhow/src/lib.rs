@@ -1,6 +1,5 @@
-//! An error of any type, under the name of the crate that `varisat-checker` has it from.
-//!
-//! It is here so that all builds without a network. Who has that crate writes `anyhow = "1"` in `varisat-checker/Cargo.toml`.
+//! An error of any type, by the names of the crate `anyhow`, as far as `varisat-checker` needs them: it is here so that that one builds
+//! without a network.
 #![warn(missing_docs)]
 use std::any::Any;
 use std::error::Error as StdError;

@@ -1,10 +1,8 @@
-//! Steps read from bytes, in the two versions that [FORMATS](../../../../docs/reference/FORMATS.md#proof-bytes) has.
-//!
-//! Files of the original solver have another byte format, which is not read.
+//! Steps read from bytes, in the two versions of [the ported checker](../../../../../docs/reference/FORMATS.md#proof-bytes).
 use crate::{ClauseHash, DeleteClauseProof, ProofStep};
-use std::error::Error;
+use anyhow::Error;
 use std::fmt;
-use std::io::{self, Read};
+use std::io::{BufRead, Read};
 use varisat_formula::{Lit, Var};
 
 /// Why bytes are no step.
@@ -28,28 +26,7 @@ impl fmt::Display for MalformedStep {
     }
 }
 
-impl Error for MalformedStep {}
-
-/// Why no step is read.
-#[derive(Debug)]
-pub enum StepFault {
-    /// A read fails. It is of the kind `UnexpectedEof` if the bytes end before the step does.
-    Io(io::Error),
-    /// The bytes are no step.
-    Malformed(MalformedStep),
-}
-
-impl From<io::Error> for StepFault {
-    fn from(fault: io::Error) -> StepFault {
-        StepFault::Io(fault)
-    }
-}
-
-impl From<MalformedStep> for StepFault {
-    fn from(fault: MalformedStep) -> StepFault {
-        StepFault::Malformed(fault)
-    }
-}
+impl std::error::Error for MalformedStep {}
 
 /// How hashes are written.
 #[derive(Clone, Copy)]
@@ -77,9 +54,9 @@ impl Parser {
     ///
     /// # Errors
     ///
-    /// At the first fault of the bytes, and if a read fails or the bytes end before the step does. What is read after a fault is
-    /// not said.
-    pub fn parse_step(&mut self, source: &mut impl Read) -> Result<ProofStep<'_>, StepFault> {
+    /// A [`MalformedStep`]; or the [`std::io::Error`] of a read, of the kind `UnexpectedEof` if the bytes end before the step does. What is read
+    /// after a fault is not said.
+    pub fn parse_step(&mut self, source: &mut impl BufRead) -> Result<ProofStep<'_>, Error> {
         let mut source = Fields(source);
         let tag = self.tag(&mut source)?;
         match tag {
@@ -94,7 +71,7 @@ impl Parser {
     }
 
     /// The tag of the next step; before the first one the mark of version 2 may stand.
-    fn tag(&mut self, source: &mut Fields<impl Read>) -> Result<u8, StepFault> {
+    fn tag(&mut self, source: &mut Fields<impl Read>) -> Result<u8, Error> {
         let first = source.byte()?;
         if self.hashes.is_some() || first != 0 {
             self.hashes.get_or_insert(Hashes::Numbers);
@@ -107,7 +84,7 @@ impl Parser {
         source.byte()
     }
 
-    fn of_literals(&mut self, tag: u8, source: &mut Fields<impl Read>) -> Result<ProofStep<'_>, StepFault> {
+    fn of_literals(&mut self, tag: u8, source: &mut Fields<impl Read>) -> Result<ProofStep<'_>, Error> {
         let reason = if tag == 0x07 { source.below(3)? } else { 0 };
         source.lits(&mut self.lits)?;
         let clause = &self.lits[..];
@@ -121,7 +98,7 @@ impl Parser {
         })
     }
 
-    fn of_hashes(&mut self, tag: u8, source: &mut Fields<impl Read>) -> Result<ProofStep<'_>, StepFault> {
+    fn of_hashes(&mut self, tag: u8, source: &mut Fields<impl Read>) -> Result<ProofStep<'_>, Error> {
         let redundant = tag == 0x06 && source.below(2)? == 1;
         source.lits(&mut self.lits)?;
         let count = source.number()?;
@@ -134,14 +111,14 @@ impl Parser {
         })
     }
 
-    fn of_units(&mut self, source: &mut Fields<impl Read>) -> Result<ProofStep<'_>, StepFault> {
+    fn of_units(&mut self, source: &mut Fields<impl Read>) -> Result<ProofStep<'_>, Error> {
         let count = source.number()?;
         let width = self.hashes;
         fill(&mut self.units, count, || Ok((source.lit()?, source.hash(width)?)))?;
         Ok(ProofStep::UnitClauses { units: &self.units })
     }
 
-    fn width(&mut self, source: &mut Fields<impl Read>) -> Result<ProofStep<'_>, StepFault> {
+    fn width(&mut self, source: &mut Fields<impl Read>) -> Result<ProofStep<'_>, Error> {
         let bits = source.below(1 << 32)? as u32;
         if let (Some(Hashes::Bits(width)), 1..=64) = (&mut self.hashes, bits) {
             *width = bits;
@@ -150,7 +127,7 @@ impl Parser {
     }
 }
 
-fn of_variable(tag: u8, source: &mut Fields<impl Read>) -> Result<ProofStep<'static>, StepFault> {
+fn of_variable(tag: u8, source: &mut Fields<impl Read>) -> Result<ProofStep<'static>, Error> {
     let global = Var::from_index(source.below(Var::max_count() as u64)? as usize);
     Ok(match tag {
         0x01 => ProofStep::SolverVarName { global, solver: source.name()? },
@@ -161,7 +138,7 @@ fn of_variable(tag: u8, source: &mut Fields<impl Read>) -> Result<ProofStep<'sta
 }
 
 /// Fills a list with as many items.
-fn fill<T>(list: &mut Vec<T>, count: u64, mut item: impl FnMut() -> Result<T, StepFault>) -> Result<(), StepFault> {
+fn fill<T>(list: &mut Vec<T>, count: u64, mut item: impl FnMut() -> Result<T, Error>) -> Result<(), Error> {
     list.clear();
     list.reserve(count.min(RESERVED) as usize);
     for _ in 0..count {
@@ -174,14 +151,14 @@ fn fill<T>(list: &mut Vec<T>, count: u64, mut item: impl FnMut() -> Result<T, St
 struct Fields<'a, R>(&'a mut R);
 
 impl<R: Read> Fields<'_, R> {
-    fn byte(&mut self) -> Result<u8, StepFault> {
+    fn byte(&mut self) -> Result<u8, Error> {
         let mut byte = [0];
         self.0.read_exact(&mut byte)?;
         Ok(byte[0])
     }
 
     /// A number, in groups of seven bits, the low one first.
-    fn number(&mut self) -> Result<u64, StepFault> {
+    fn number(&mut self) -> Result<u64, Error> {
         let mut value = 0;
         for group in 0..10 {
             let byte = self.byte()?;
@@ -198,7 +175,7 @@ impl<R: Read> Fields<'_, R> {
         Err(MalformedStep::BadNumber.into())
     }
 
-    fn below(&mut self, bound: u64) -> Result<u64, StepFault> {
+    fn below(&mut self, bound: u64) -> Result<u64, Error> {
         let value = self.number()?;
         if value < bound {
             Ok(value)
@@ -207,21 +184,21 @@ impl<R: Read> Fields<'_, R> {
         }
     }
 
-    fn name(&mut self) -> Result<Option<Var>, StepFault> {
+    fn name(&mut self) -> Result<Option<Var>, Error> {
         let name = self.below(Var::max_count() as u64 + 1)? as usize;
         Ok(name.checked_sub(1).map(Var::from_index))
     }
 
-    fn lit(&mut self) -> Result<Lit, StepFault> {
+    fn lit(&mut self) -> Result<Lit, Error> {
         Ok(Lit::from_code(self.below(2 * Var::max_count() as u64)? as usize))
     }
 
-    fn lits(&mut self, lits: &mut Vec<Lit>) -> Result<(), StepFault> {
+    fn lits(&mut self, lits: &mut Vec<Lit>) -> Result<(), Error> {
         let count = self.number()?;
         fill(lits, count, || self.lit())
     }
 
-    fn hash(&mut self, hashes: Option<Hashes>) -> Result<ClauseHash, StepFault> {
+    fn hash(&mut self, hashes: Option<Hashes>) -> Result<ClauseHash, Error> {
         let width = match hashes {
             Some(Hashes::Bits(width)) => width,
             _ => return self.number(),
