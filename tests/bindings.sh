@@ -202,7 +202,7 @@ upstream_project() {
   find "$1/crate" -name Cargo.lock -delete
   cp "$own"/upstream/*.rs "$own/upstream/Cargo.toml" "$1/upstream/"
   printf '[patch.crates-io]\n' > "$1/.cargo/config.toml"
-  for path in varisat-checker offline/anyhow offline/varisat-formula offline/varisat-internal-proof; do
+  for path in varisat-checker offline/{anyhow,varisat-formula,varisat-internal-proof}; do
     printf '%s = { path = "%s/crate/%s" }\n' "${path##*/}" "$1" "$path" >> "$1/.cargo/config.toml"
   done
 }
@@ -250,6 +250,22 @@ of_cargo() {
     fault "without a library: $(cat said)"
   fi
   of_upstream "$work"
+}
+
+# Programs for varisat-checker with the true crate anyhow, of which the distribution has the sources.
+case_anyhow() {
+  only_with cargo pkg-config
+  registry=/usr/share/cargo/registry
+  compgen -G "$registry/anyhow-1.*" > said || untried 'the crate anyhow is not installed'
+  upstream_project "$work"
+  cd "$work"
+  sed -i '/^anyhow = /d' .cargo/config.toml
+  printf '[source.crates-io]\nreplace-with = "packaged"\n[source.packaged]\ndirectory = "%s"\n' \
+    "$registry" >> .cargo/config.toml
+  CARGO_NET_OFFLINE=true CARGO_TARGET_DIR=$work/target quiet \
+    cargo build -q --bin items --manifest-path upstream/Cargo.toml
+  grep -q "^source = .*crates.io-index" upstream/Cargo.lock
+  target/debug/items
 }
 
 # Python: the package as it stands.

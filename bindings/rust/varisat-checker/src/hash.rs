@@ -9,11 +9,13 @@ pub(crate) struct ClauseHasher {
     width: u32,
     names: HashMap<Var, Var>,
     pending: Vec<(Var, Option<Var>)>,
+    /// Whether there is a name in `pending`.
+    has_new_name: bool,
 }
 
 impl Default for ClauseHasher {
     fn default() -> ClauseHasher {
-        ClauseHasher { width: 64, names: HashMap::new(), pending: Vec::new() }
+        ClauseHasher { width: 64, names: HashMap::new(), pending: Vec::new(), has_new_name: false }
     }
 }
 
@@ -37,11 +39,12 @@ impl ClauseHasher {
 
     pub fn rename(&mut self, global: Var, name: Option<Var>) {
         self.pending.push((global, name));
+        self.has_new_name |= name.is_some();
     }
 
     /// Whether a name waits, so that the next check needs it.
     pub fn has_new_name(&self) -> bool {
-        self.pending.iter().any(|(_, name)| name.is_some())
+        self.has_new_name
     }
 
     pub fn set_width(&mut self, width: u32) {
@@ -50,6 +53,7 @@ impl ClauseHasher {
 
     /// Applies the names and removals that wait, in their order.
     pub fn apply(&mut self) {
+        self.has_new_name = false;
         for (global, name) in take(&mut self.pending) {
             match name {
                 Some(name) => self.names.insert(global, name),
