@@ -46,9 +46,10 @@ for name in session checker; do
   cc -std=c99 -O2 -Wall -Wextra -Werror -I"$header" -o "$work/$name" "$own/$name.c" "$library"
 done
 cc -std=c99 -O2 -Wall -Wextra -Werror -I"$header" -Wl,--wrap=malloc,--wrap=realloc -o "$work/memory" "$own/memory.c" "$library"
-mkdir "$work/bin"
-ln -s "$top/tools/checked" "$work/bin/"
-for program in drat_check lrat_check model_check session_check; do
+programs=$work/bin
+mkdir "$programs"
+ln -s "$top/tools/checked" "$programs/"
+for program in drat_check lrat_check model_check session_check varisat_check; do
   if [[ -x $top/crates/${program}_main/out/${program}_main ]]; then
     ln -s "$top/crates/${program}_main/out/${program}_main" "$work/bin/$program"
   else
@@ -99,6 +100,25 @@ case_handles() {
   done
   expect 0 $'unsatisfiable under -2: shown\nsatisfiable: shown' -- "$work/session_example"
   expect 0 "$queries" -- "$work/checker_example"
+}
+
+# Each cause of a header has a text of its own, which is that of Python.
+case_causes() {
+  only_with python3
+  for kind in checker session; do
+    constants=$(sed -n '/^enum {$/,/^};$/s/^ *CEFINDRATO_\([A-Z_]* = [0-9]*\).*/\1/p' \
+      "$header/cefindrato_$kind.h")
+    mapfile -t numbers < <(sed '/^STEP_/d; s/.* = //' <<< "$constants")
+    cc -std=c99 -Wall -Wextra -Werror -I"$header" -DKIND="$kind" -o causes "$own/causes.c" "$library"
+    ./causes "${numbers[@]}" > texts
+    if ((${#numbers[@]} < 11)) || grep -q '^$' texts ||
+      [[ $(sort -u texts | wc -l) != "${#numbers[@]}" ]]; then
+      fault "causes of the $kind: ${numbers[*]} have the texts $(cat texts)"
+    fi
+    expect 0 '' -- ./causes 0
+    CEFINDRATO_LIBRARY=$prefix/lib/libcefindrato.so PYTHONPATH=$top/bindings/python \
+      python3 "$own/causes.py" "$kind" texts "${numbers[@]}"
+  done
 }
 
 case_memory() {
@@ -161,20 +181,59 @@ case_rust() {
     set -e
     ((status == 0)) || fault "by $folder/cargo"
   done
+  [[ -x /usr/bin/cargo ]] || not_tried "the distribution's cargo is not installed"
   if cargo clippy --version > said 2>&1; then
-    cp -R "$top/bindings/rust" "$work/linted"
-    CARGO_TARGET_DIR=$work/lints quiet cargo clippy -q --manifest-path "$work/linted/Cargo.toml" -- -D clippy::incompatible_msrv
+    upstream_project "$work/linted"
+    cd "$work/linted"
+    for manifest in crate/Cargo.toml crate/varisat-checker/Cargo.toml; do
+      CARGO_TARGET_DIR=$work/lints CARGO_NET_OFFLINE=true quiet \
+        cargo clippy -q --manifest-path "$manifest" -- -D clippy::incompatible_msrv
+    done
   else
     not_tried 'clippy is not installed, the version of Rust that is needed'
   fi
 }
 
+# upstream_project FOLDER: in it the crates, and a project that names those of upstream by their
+# versions there, and has them from here.
+upstream_project() {
+  mkdir -p "$1/upstream" "$1/.cargo"
+  cp -R "$top/bindings/rust" "$1/crate"
+  find "$1/crate" -name Cargo.lock -delete
+  cp "$own"/upstream/*.rs "$own/upstream/Cargo.toml" "$1/upstream/"
+  printf '[patch.crates-io]\n' > "$1/.cargo/config.toml"
+  for path in varisat-checker offline/{anyhow,varisat-formula,varisat-internal-proof}; do
+    printf '%s = { path = "%s/crate/%s" }\n' "${path##*/}" "$1" "$path" >> "$1/.cargo/config.toml"
+  done
+}
+
+# Programs for the crate varisat-checker, over the library: each item once, what the ported checker
+# with processors gives, and proofs as by its program.
+of_upstream() {
+  local work=$1
+  quiet cargo test -q --manifest-path "$work/crate/varisat-checker/Cargo.toml"
+  quiet cargo build -q --manifest-path "$work/upstream/Cargo.toml"
+  "$work/target/debug/items"
+  "$work/target/debug/vectors" "$top"/crates/check_vectors/data/*
+  if [[ -x $programs/varisat_check ]]; then
+    python3 "$own/upstream/compare.py" "$work/target/debug/proofs" "$programs/varisat_check" \
+      "$top/tests/data" "${PROOFS:-20}"
+  else
+    not_tried 'varisat_check is not built'
+  fi
+  # by other hashes of literals than the library has, as those of upstream are
+  hash=$work/crate/offline/varisat-internal-proof/src/lib.rs
+  sed -i 's/0x9E37_79B9_7F4A_7C15/0xD1B5_4A32_D192_ED03/' "$hash"
+  grep -q 0xD1B5_4A32_D192_ED03 "$hash"
+  quiet cargo build -q --manifest-path "$work/upstream/Cargo.toml"
+  "$work/target/debug/items"
+}
+
 # of_cargo FOLDER: the crate's own tests in a copy, and a project that names it by its path, which runs without the library's folder.
 of_cargo() {
   local work=$1
-  mkdir -p "$work"
+  upstream_project "$work"
   cd "$work"
-  cp -R "$top/bindings/rust" "$work/crate"
   export CARGO_TARGET_DIR=$work/target CARGO_NET_OFFLINE=true
   quiet cargo test -q --manifest-path "$work/crate/Cargo.toml"
   mkdir -p "$work/rust_project/src"
@@ -190,6 +249,23 @@ of_cargo() {
     ! grep -q '^  libcefindrato is not found: install it' said || grep -q panicked said; then
     fault "without a library: $(cat said)"
   fi
+  of_upstream "$work"
+}
+
+# Programs for varisat-checker with the true crate anyhow, of which the distribution has the sources.
+case_anyhow() {
+  only_with cargo pkg-config
+  registry=/usr/share/cargo/registry
+  compgen -G "$registry/anyhow-1.*" > said || untried 'the crate anyhow is not installed'
+  upstream_project "$work"
+  cd "$work"
+  sed -i '/^anyhow = /d' .cargo/config.toml
+  printf '[source.crates-io]\nreplace-with = "packaged"\n[source.packaged]\ndirectory = "%s"\n' \
+    "$registry" >> .cargo/config.toml
+  CARGO_NET_OFFLINE=true CARGO_TARGET_DIR=$work/target quiet \
+    cargo build -q --bin items --manifest-path upstream/Cargo.toml
+  grep -q "^source = .*crates.io-index" upstream/Cargo.lock
+  target/debug/items
 }
 
 # Python: the package as it stands.

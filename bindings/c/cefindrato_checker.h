@@ -67,6 +67,62 @@ typedef struct {
     uint64_t step;  /* if it is rejected, how many steps were checked so far, with this one; else 0 */
 } cefindrato_checker_answer;
 
+/* The text of a cause; of another number, as of 0, the empty text. */
+static inline const char *cefindrato_checker_cause_text(int cause) {
+    switch (cause) {
+    case CEFINDRATO_CHECKER_TAUTOLOGY:
+        return "clause is a tautology";
+    case CEFINDRATO_CHECKER_NO_CLAUSE_FOR_HASH:
+        return "no clause found for hash";
+    case CEFINDRATO_CHECKER_AT_CHECK_FAILED:
+        return "AT check failed";
+    case CEFINDRATO_CHECKER_DELETE_UNIT_OR_EMPTY:
+        return "delete of unit or empty clause";
+    case CEFINDRATO_CHECKER_DELETE_UNKNOWN:
+        return "delete of unknown clause";
+    case CEFINDRATO_CHECKER_DELETE_REDUNDANT_IS_IRREDUNDANT:
+        return "delete of redundant clause which is irredundant";
+    case CEFINDRATO_CHECKER_DELETE_IRREDUNDANT_IS_REDUNDANT:
+        return "delete of irredundant clause which is redundant";
+    case CEFINDRATO_CHECKER_NOT_SATISFIED:
+        return "deleted clause is not satisfied";
+    case CEFINDRATO_CHECKER_NOT_SUBSUMED:
+        return "deleted clause is not subsumed by previous clause";
+    case CEFINDRATO_CHECKER_MODEL_AGAINST_UNIT:
+        return "model assignment conflicts with unit clause";
+    case CEFINDRATO_CHECKER_MODEL_AGAINST_ITSELF:
+        return "model contains conflicting assignment";
+    case CEFINDRATO_CHECKER_MODEL_MISSES_ASSUMPTION:
+        return "model does not contain assumption";
+    case CEFINDRATO_CHECKER_MODEL_MISSES_CLAUSE:
+        return "model does not satisfy clause";
+    case CEFINDRATO_CHECKER_NOT_ASSUMED:
+        return "failed core contains non-assumed variables";
+    case CEFINDRATO_CHECKER_UNKNOWN_VAR:
+        return "unknown variable";
+    case CEFINDRATO_CHECKER_MODEL_AFTER_UNSAT:
+        return "model after unsatisfiability";
+    case CEFINDRATO_CHECKER_IDS_EXHAUSTED:
+        return "no clause id left";
+    case CEFINDRATO_CHECKER_COUNT_EXHAUSTED:
+        return "clause count exhausted";
+    case CEFINDRATO_CHECKER_STEPS_EXHAUSTED:
+        return "no step number left";
+    case CEFINDRATO_CHECKER_NONE:
+        return "there is no checker";
+    case CEFINDRATO_CHECKER_BEGUN:
+        return "the checker was begun already";
+    case CEFINDRATO_CHECKER_NO_LITERAL:
+        return "a number is no literal";
+    case CEFINDRATO_CHECKER_NO_STEP:
+        return "a number is no kind of step";
+    case CEFINDRATO_CHECKER_FAILED:
+        return "checker has failed";
+    default:
+        return "";
+    }
+}
+
 /* What the library exports. No pointer may be null, even at length 0; no list may overlap the checker. */
 cefindrato_checker_answer cefindrato_checker_begin(cefindrato_checker *checker);
 void cefindrato_checker_end(cefindrato_checker *checker);

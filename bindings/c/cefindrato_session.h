@@ -37,6 +37,36 @@ typedef struct {
     uint64_t clause; /* of CEFINDRATO_MISSES_CLAUSE the first such clause, counted from 1; else 0 */
 } cefindrato_session_answer;
 
+/* The text of a cause; of another number, as of 0, the empty text. */
+static inline const char *cefindrato_session_cause_text(int cause) {
+    switch (cause) {
+    case CEFINDRATO_ID_TAKEN:
+        return "id is taken";
+    case CEFINDRATO_UNKNOWN_ID:
+        return "no clause has the id of a hint";
+    case CEFINDRATO_NOT_UNIT:
+        return "clause of a hint is not unit";
+    case CEFINDRATO_NO_CONFLICT:
+        return "hints end without a conflict";
+    case CEFINDRATO_NOT_ASSUMED:
+        return "a literal of the core was not assumed";
+    case CEFINDRATO_BOTH_SIGNS:
+        return "the model has both signs of a variable";
+    case CEFINDRATO_MISSES_ASSUMPTION:
+        return "the model does not have an assumption";
+    case CEFINDRATO_MISSES_CLAUSE:
+        return "the model has no literal of a clause";
+    case CEFINDRATO_NO_SESSION:
+        return "there is no session";
+    case CEFINDRATO_BEGUN:
+        return "the session was begun already";
+    case CEFINDRATO_NO_LITERAL:
+        return "a number is no literal";
+    default:
+        return "";
+    }
+}
+
 /* What the library exports. No pointer may be null, even at length 0; no list may overlap the session. */
 cefindrato_session_answer cefindrato_session_begin(cefindrato_session *session);
 void cefindrato_session_end(cefindrato_session *session);

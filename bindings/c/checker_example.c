@@ -4,7 +4,7 @@
 #include "cefindrato_checker.h"
 #include <stdio.h>
 
-static const char *told(cefindrato_checker_answer answer) {
+static const char *verdict(cefindrato_checker_answer answer) {
     return answer.status == CEFINDRATO_VERIFIED ? "shown" : "not shown";
 }
 
@@ -24,9 +24,9 @@ int main(void) {
     core_hash = cefindrato_clause_hash(lemma, 2);
     cefindrato_check_step(&checker, CEFINDRATO_STEP_ASSUMPTIONS, assumed, 2, NULL, 0);
     printf("unsatisfiable under -1 and -3: %s\n",
-           told(cefindrato_check_step(&checker, CEFINDRATO_STEP_FAILED_ASSUMPTIONS, assumed, 2, &core_hash, 1)));
+           verdict(cefindrato_check_step(&checker, CEFINDRATO_STEP_FAILED_ASSUMPTIONS, assumed, 2, &core_hash, 1)));
     cefindrato_check_step(&checker, CEFINDRATO_STEP_ASSUMPTIONS, assumed + 1, 1, NULL, 0);
-    printf("satisfiable under -3: %s\n", told(cefindrato_check_step(&checker, CEFINDRATO_STEP_MODEL, model, 2, NULL, 0)));
+    printf("satisfiable under -3: %s\n", verdict(cefindrato_check_step(&checker, CEFINDRATO_STEP_MODEL, model, 2, NULL, 0)));
     cefindrato_end_checker(&checker);
     return 0;
 }

@@ -4,7 +4,7 @@
 #include "cefindrato_session.h"
 #include <stdio.h>
 
-static const char *told(cefindrato_session_answer answer) {
+static const char *verdict(cefindrato_session_answer answer) {
     return answer.status == CEFINDRATO_VERIFIED ? "shown" : "not shown";
 }
 
@@ -19,8 +19,8 @@ int main(void) {
     cefindrato_give(&session, 2, second, 1);
     /* the solver's lemma: with 2 false, clause 2 makes 1 false, and then clause 1 is false */
     cefindrato_derive(&session, 3, lemma, 1, hints, 2);
-    printf("unsatisfiable under -2: %s\n", told(cefindrato_fails(&session, assumed, 1, assumed, 1, core_hints, 1)));
-    printf("satisfiable: %s\n", told(cefindrato_satisfies(&session, NULL, 0, model, 2)));
+    printf("unsatisfiable under -2: %s\n", verdict(cefindrato_fails(&session, assumed, 1, assumed, 1, core_hints, 1)));
+    printf("satisfiable: %s\n", verdict(cefindrato_satisfies(&session, NULL, 0, model, 2)));
     cefindrato_end_session(&session);
     return 0;
 }

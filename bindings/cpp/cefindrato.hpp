@@ -13,13 +13,19 @@ namespace cefindrato {
 // What a check answers.
 enum class Answer {
     verified,     // no assignment satisfies the clauses of the formula's text; of a model: it satisfies them
-    not_verified, // all of the proof is accepted, and it shows nothing; of a model: a clause is not met
-    fault,        // a text is refused
+    not_verified, // all of the proof is accepted, and it shows nothing; of a model: a clause is not satisfied
+    fault,        // a text is rejected
     out_of_memory // there was no memory; nothing is said of the formula or of the proof
 };
 
-// The format of a proof: by default its first bytes tell it.
-enum class Format { told = CEFINDRATO_TOLD, drat = CEFINDRATO_DRAT, frat = CEFINDRATO_FRAT, lpr = CEFINDRATO_LPR };
+// The format of a proof: by default it is detected from its first bytes.
+enum class Format {
+    detected = CEFINDRATO_DETECTED,
+    drat = CEFINDRATO_DRAT,
+    frat = CEFINDRATO_FRAT,
+    lpr = CEFINDRATO_LPR,
+    told [[deprecated("detected")]] = CEFINDRATO_DETECTED
+};
 
 namespace detail {
 
@@ -36,9 +42,9 @@ inline Answer answer_of(int status) {
     }
 }
 
-// Room for a text. Its bytes are not touched before there is a text.
-struct Room {
-    explicit Room(size_t size) : bytes(new char[size]), size(size) {}
+// A buffer for a text. Its bytes are not touched before there is a text.
+struct Buffer {
+    explicit Buffer(size_t size) : bytes(new char[size]), size(size) {}
     std::string text(const cefindrato_text &placed) const { return {bytes.get(), placed.len}; }
     std::unique_ptr<char[]> bytes;
     size_t size;
@@ -48,11 +54,11 @@ struct Room {
 
 // Checks an LRAT proof, text or binary, against a DIMACS text. Where `why` is given it gets the text of a fault, and nothing otherwise.
 inline Answer check(std::string_view cnf, std::string_view proof, std::string *why = nullptr) {
-    char room[512] = {};
+    char text[512] = {};
     const cefindrato_answer answer =
-        cefindrato_check(cnf.data(), cnf.size(), proof.data(), proof.size(), room, sizeof room);
+        cefindrato_check(cnf.data(), cnf.size(), proof.data(), proof.size(), text, sizeof text);
     if (why)
-        why->assign(room, answer.text.len);
+        why->assign(text, answer.text.len);
     return detail::answer_of(answer.status);
 }
 
@@ -65,14 +71,14 @@ struct DratOutputs {
 // Checks a DRAT, DPR or FRAT proof, text or binary, or LPR text, against a DIMACS text. Where LRAT text is wanted that is longer than eight times
 // the proof and a megabyte, the proof is checked twice.
 inline Answer check_drat(std::string_view cnf, std::string_view proof, std::string *why = nullptr, DratOutputs outputs = {},
-                         Format format = Format::told) {
-    char room[512] = {};
-    detail::Room core(outputs.core ? cnf.size() + 64 : 0);
+                         Format format = Format::detected) {
+    char text[512] = {};
+    detail::Buffer core(outputs.core ? cnf.size() + 64 : 0);
     for (size_t size = outputs.lrat ? 8 * proof.size() + (1 << 20) : 0;;) {
-        const detail::Room lrat(size);
+        const detail::Buffer lrat(size);
         const cefindrato_drat_answer answer = cefindrato_check_drat(
             cnf.data(), cnf.size(), proof.data(), proof.size(), static_cast<int>(format), outputs.lrat ? lrat.bytes.get() : nullptr,
-            size, outputs.core ? core.bytes.get() : nullptr, core.size, room, sizeof room);
+            size, outputs.core ? core.bytes.get() : nullptr, core.size, text, sizeof text);
         if (answer.lrat.len < answer.lrat.whole) {
             size = answer.lrat.whole;
             continue;
@@ -82,28 +88,28 @@ inline Answer check_drat(std::string_view cnf, std::string_view proof, std::stri
         if (outputs.core)
             *outputs.core = core.text(answer.core);
         if (why)
-            why->assign(room, answer.text.len);
+            why->assign(text, answer.text.len);
         return detail::answer_of(answer.status);
     }
 }
 
-// A clause that an answer does not meet.
+// A clause that an answer does not satisfy.
 struct Unmet {
     uint64_t clause = 0; // its number, counted from 1; 0: there is none
     uint64_t line = 0;   // the line on which it ends
 };
 
 // Checks a solver's answer that a formula is satisfiable against a DIMACS text. Where `unmet` is given it gets the first clause
-// that is not met.
+// that is not satisfied.
 inline Answer check_model(std::string_view cnf, std::string_view answer, std::string *why = nullptr, Unmet *unmet = nullptr) {
-    char room[512] = {};
-    const cefindrato_model_answer told =
-        cefindrato_check_model(cnf.data(), cnf.size(), answer.data(), answer.size(), room, sizeof room);
+    char text[512] = {};
+    const cefindrato_model_answer result =
+        cefindrato_check_model(cnf.data(), cnf.size(), answer.data(), answer.size(), text, sizeof text);
     if (why)
-        why->assign(room, told.text.len);
+        why->assign(text, result.text.len);
     if (unmet)
-        *unmet = {told.clause, told.line};
-    return detail::answer_of(told.status);
+        *unmet = {result.clause, result.line};
+    return detail::answer_of(result.status);
 }
 
 } // namespace cefindrato

@@ -30,6 +30,7 @@ struct CheckerAnswer {
     int cause = 0;     // CEFINDRATO_CHECKER_TAUTOLOGY to CEFINDRATO_CHECKER_STEPS_EXHAUSTED; 0: it is accepted
     uint64_t step = 0; // if it is rejected, how many steps were checked so far, with this one; else 0
     explicit operator bool() const { return cause == 0; }
+    const char *text() const { return cefindrato_checker_cause_text(cause); } // why it is rejected; empty if it is accepted
 };
 
 // The hash of a clause without repeated literals.
@@ -56,9 +57,9 @@ class Checker {
         if (answer.status == CEFINDRATO_OUT_OF_MEMORY)
             throw std::bad_alloc();
         if (answer.status == CEFINDRATO_NOT_RUN && answer.cause == CEFINDRATO_CHECKER_FAILED)
-            throw std::runtime_error("the checker has failed");
+            throw std::runtime_error(cefindrato_checker_cause_text(answer.cause));
         if (answer.status == CEFINDRATO_NOT_RUN)
-            throw std::invalid_argument(answer.cause == CEFINDRATO_CHECKER_NO_LITERAL ? "a number is no literal" : "there is no checker");
+            throw std::invalid_argument(cefindrato_checker_cause_text(answer.cause));
         return {answer.cause, answer.step};
     }
 

@@ -1,6 +1,6 @@
 // A check of a proof that is not there yet, for C++17: `lrat_check` or `drat_check` reads it from a pipe while it is written.
 //
-// The state is the program's own. `lrat_check` judges each line as it comes, and ends at the first that is refused and at the
+// The state is the program's own. `lrat_check` judges each line as it comes, and ends at the first that is rejected and at the
 // empty clause; what is written after that meets no reader. So a caller ignores SIGPIPE: std::signal(SIGPIPE, SIG_IGN).
 #ifndef CEFINDRATO_RUNNING_HPP
 #define CEFINDRATO_RUNNING_HPP

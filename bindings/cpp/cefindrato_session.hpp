@@ -16,6 +16,7 @@ struct SessionAnswer {
     int cause = 0;       // CEFINDRATO_ID_TAKEN to CEFINDRATO_MISSES_CLAUSE; 0: it is accepted
     uint64_t clause = 0; // the first clause that a model misses, counted from 1; else 0
     explicit operator bool() const { return cause == 0; }
+    const char *text() const { return cefindrato_session_cause_text(cause); } // why it is rejected; empty if it is accepted
 };
 
 // A session, which ends with the object. A call throws std::bad_alloc if there is no memory, and std::invalid_argument if a number is no
@@ -44,7 +45,7 @@ class Session {
         if (answer.status == CEFINDRATO_OUT_OF_MEMORY)
             throw std::bad_alloc();
         if (answer.status == CEFINDRATO_NOT_RUN)
-            throw std::invalid_argument(answer.cause == CEFINDRATO_NO_LITERAL ? "a number is no literal" : "there is no session");
+            throw std::invalid_argument(cefindrato_session_cause_text(answer.cause));
         return {answer.cause, answer.clause};
     }
 

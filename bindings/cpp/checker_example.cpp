@@ -7,7 +7,7 @@
 using cefindrato::clause_hash;
 using cefindrato::Step;
 
-static const char *told(const cefindrato::CheckerAnswer &answer) { return answer ? "shown" : "not shown"; }
+static const char *verdict(const cefindrato::CheckerAnswer &answer) { return answer ? "shown" : "not shown"; }
 
 int main() {
     cefindrato::Checker checker;
@@ -18,7 +18,7 @@ int main() {
     checker.check_step(Step::redundant_at_clause, {1, 3}, {clause_hash({1, 2}), clause_hash({1, -2, 3})});
     checker.check_step(Step::assumptions, {-1, -3});
     std::cout << "unsatisfiable under -1 and -3: "
-              << told(checker.check_step(Step::failed_assumptions, {-1, -3}, {clause_hash({1, 3})})) << "\n";
+              << verdict(checker.check_step(Step::failed_assumptions, {-1, -3}, {clause_hash({1, 3})})) << "\n";
     checker.check_step(Step::assumptions, {-3});
-    std::cout << "satisfiable under -3: " << told(checker.check_step(Step::model, {1, -3})) << "\n";
+    std::cout << "satisfiable under -3: " << verdict(checker.check_step(Step::model, {1, -3})) << "\n";
 }

@@ -35,10 +35,10 @@ def library():
     name = os.environ.get("CEFINDRATO_LIBRARY")
     if not name:
         try:
-            told = subprocess.run(["pkg-config", "--variable=libdir", "cefindrato"], capture_output=True, text=True)
+            found = subprocess.run(["pkg-config", "--variable=libdir", "cefindrato"], capture_output=True, text=True)
         except OSError:
             return None
-        name = os.path.join(told.stdout.strip(), LIBRARY) if told.stdout.strip() else ""
+        name = os.path.join(found.stdout.strip(), LIBRARY) if found.stdout.strip() else ""
     return os.path.abspath(name) if name and os.path.isfile(name) else None
 
 

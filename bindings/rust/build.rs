@@ -11,9 +11,9 @@ fn folder() -> Option<String> {
     if let Ok(folder) = env::var("CEFINDRATO_LIBRARY_FOLDER") {
         return Some(folder);
     }
-    let told = Command::new("pkg-config").args(["--variable=libdir", "cefindrato"]).output().ok()?;
-    let folder = String::from_utf8(told.stdout).ok()?.trim_end().to_owned();
-    (told.status.success() && !folder.is_empty()).then_some(folder)
+    let found = Command::new("pkg-config").args(["--variable=libdir", "cefindrato"]).output().ok()?;
+    let folder = String::from_utf8(found.stdout).ok()?.trim_end().to_owned();
+    (found.status.success() && !folder.is_empty()).then_some(folder)
 }
 
 fn main() {

@@ -15,6 +15,7 @@ int main() {
     is_so("core", bool(checker.check_step(Step::failed_assumptions, {-1, -3}, {clause_hash({1, 3})})));
     const cefindrato::CheckerAnswer other = checker.check_step(Step::failed_assumptions, {-2}, {clause_hash({1, 3})});
     is_so("not assumed", other.cause == CEFINDRATO_CHECKER_NOT_ASSUMED && other.step == 6);
+    is_so("its text", std::string(other.text()) == "failed core contains non-assumed variables");
     is_so("nothing is assumed", bool(checker.check_step(Step::assumptions)));
     is_so("model", bool(checker.check_step(Step::model, {3, 2})));
     is_so("missed", checker.check_step(Step::model, {2}).cause == CEFINDRATO_CHECKER_MODEL_MISSES_CLAUSE);

@@ -44,7 +44,7 @@ static struct told lrat_call(const char *proof) {
 }
 
 static struct told drat_call(const char *proof) {
-    const cefindrato_drat_answer answer = cefindrato_check_drat(cnf, strlen(cnf), proof, strlen(proof), CEFINDRATO_TOLD, lrat,
+    const cefindrato_drat_answer answer = cefindrato_check_drat(cnf, strlen(cnf), proof, strlen(proof), CEFINDRATO_DETECTED, lrat,
                                                                 sizeof lrat, core, sizeof core, text, sizeof text);
     const struct told told = {answer.status, answer.text.len, answer.lrat.len, answer.core.len};
     return told;

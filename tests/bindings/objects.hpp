@@ -3,6 +3,7 @@
 #define OBJECTS_HPP
 #include <iostream>
 #include <stdexcept>
+#include <string>
 
 // Whether something was not so.
 static int wrong = 0;

@@ -6,7 +6,7 @@
 int main(void) {
     const char *cnf = "p cnf 2 4\n1 2 0\n1 -2 0\n-1 2 0\n-1 -2 0\n", *proof = "1 0\n0\n";
     char lrat[100], why[200];
-    const cefindrato_drat_answer answer = cefindrato_check_drat(cnf, strlen(cnf), proof, strlen(proof), CEFINDRATO_TOLD, lrat,
+    const cefindrato_drat_answer answer = cefindrato_check_drat(cnf, strlen(cnf), proof, strlen(proof), CEFINDRATO_DETECTED, lrat,
                                                                 sizeof lrat, NULL, 0, why, sizeof why);
     if (answer.status != CEFINDRATO_VERIFIED) {
         printf("%d %.*s\n", answer.status, (int)answer.text.len, why);

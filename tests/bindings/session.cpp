@@ -11,6 +11,7 @@ int main() {
     is_so("derived", bool(session.derive(3, {2}, {2, 1})));
     is_so("core", bool(session.fails({-2, 3}, {-2}, {3})));
     is_so("not assumed", session.fails({3}, {-2}, {3}).cause == CEFINDRATO_NOT_ASSUMED);
+    is_so("its text", std::string(session.fails({3}, {-2}, {3}).text()) == "a literal of the core was not assumed");
     is_so("model", bool(session.satisfies({2}, {2, -1})));
     const cefindrato::SessionAnswer missed = session.satisfies({}, {2});
     is_so("missed", missed.cause == CEFINDRATO_MISSES_CLAUSE && missed.clause == 2);

@@ -41,7 +41,7 @@ static void expect_outputs(void) {
     const char *used = "p cnf 2 4\n1 2 0\n1 -2 0\n-1 2 0\n-1 -2 0\n";
     char lines[80], lrat[80], core[80];
     size_t size, len;
-    cefindrato_drat_answer answer = cefindrato_check_drat(cnf, strlen(cnf), proof, strlen(proof), CEFINDRATO_TOLD, lines,
+    cefindrato_drat_answer answer = cefindrato_check_drat(cnf, strlen(cnf), proof, strlen(proof), CEFINDRATO_DETECTED, lines,
                                                           sizeof lines - 1, NULL, 0, NULL, 0);
     is_so("LRAT alone", answer.status == CEFINDRATO_VERIFIED && answer.core.whole == 0);
     len = answer.lrat.len;
@@ -57,10 +57,10 @@ static void expect_outputs(void) {
         is_so("behind the rooms", size == sizeof lrat || (lrat[size] == '#' && core[size] == '#'));
     }
     memset(lrat, '#', sizeof lrat);
-    answer = cefindrato_check_drat(cnf, strlen(cnf), "1 0\n", 4, CEFINDRATO_TOLD, lrat, sizeof lrat, NULL, 0, NULL, 0);
+    answer = cefindrato_check_drat(cnf, strlen(cnf), "1 0\n", 4, CEFINDRATO_DETECTED, lrat, sizeof lrat, NULL, 0, NULL, 0);
     is_so("conflict before the empty clause", answer.status == CEFINDRATO_VERIFIED && answer.lrat.whole > 0);
     memset(lrat, '#', sizeof lrat);
-    answer = cefindrato_check_drat(cnf, strlen(cnf), "4 0\n", 4, CEFINDRATO_TOLD, lrat, sizeof lrat, core, 0, NULL, 0);
+    answer = cefindrato_check_drat(cnf, strlen(cnf), "4 0\n", 4, CEFINDRATO_DETECTED, lrat, sizeof lrat, core, 0, NULL, 0);
     is_so("no output without a proof", answer.status == CEFINDRATO_NOT_VERIFIED && holds(lrat, sizeof lrat, answer.lrat, ""));
 }
 
@@ -73,19 +73,19 @@ static void expect_drat(void) {
         int format, status;
         const char *text;
     } rows[] = {
-        {cnf, "1 0\n0\n", CEFINDRATO_TOLD, CEFINDRATO_VERIFIED, ""},
+        {cnf, "1 0\n0\n", CEFINDRATO_DETECTED, CEFINDRATO_VERIFIED, ""},
         {cnf, "1 0\n0\n", CEFINDRATO_DRAT, CEFINDRATO_VERIFIED, ""},
-        {cnf, frat, CEFINDRATO_TOLD, CEFINDRATO_VERIFIED, ""},
+        {cnf, frat, CEFINDRATO_DETECTED, CEFINDRATO_VERIFIED, ""},
         {cnf, frat, CEFINDRATO_FRAT, CEFINDRATO_VERIFIED, ""},
         {cnf, "5 1 0 1 2 0\n6 0 5 3 4 0\n", CEFINDRATO_LPR, CEFINDRATO_VERIFIED, ""},
         {cnf, frat, CEFINDRATO_DRAT, CEFINDRATO_FAULT, "proof: step 1: malformed"},
         {cnf, "1 0\n0\n", CEFINDRATO_LPR + 1, CEFINDRATO_NOT_RUN, ""},
         {cnf, "1 0\n0\n", -1, CEFINDRATO_NOT_RUN, ""},
         {cnf, "1 0\n0\n", 256, CEFINDRATO_NOT_RUN, ""},
-        {three, "1 0\n", CEFINDRATO_TOLD, CEFINDRATO_NOT_VERIFIED, ""},
-        {three, "-1 0\n0\n", CEFINDRATO_TOLD, CEFINDRATO_FAULT,
+        {three, "1 0\n", CEFINDRATO_TOLD, CEFINDRATO_NOT_VERIFIED, ""}, /* (the former name) */
+        {three, "-1 0\n0\n", CEFINDRATO_DETECTED, CEFINDRATO_FAULT,
          "proof: step 1: clause is neither RUP nor RAT on its first literal"},
-        {"1 x", "", CEFINDRATO_TOLD, CEFINDRATO_FAULT, "formula: line 1: bad number"},
+        {"1 x", "", CEFINDRATO_DETECTED, CEFINDRATO_FAULT, "formula: line 1: bad number"},
     };
     char text[100];
     size_t n;
@@ -96,13 +96,13 @@ static void expect_drat(void) {
         const cefindrato_answer plain = {answer.status, answer.text};
         expect(rows[n].proof, plain, rows[n].status, rows[n].text, text);
     }
-    is_so("binary DRAT", cefindrato_check_drat(cnf, strlen(cnf), "a\2\0a", 5, CEFINDRATO_TOLD, NULL, 0, NULL, 0, NULL, 0).status ==
+    is_so("binary DRAT", cefindrato_check_drat(cnf, strlen(cnf), "a\2\0a", 5, CEFINDRATO_DETECTED, NULL, 0, NULL, 0, NULL, 0).status ==
                              CEFINDRATO_VERIFIED);
-    is_so("null", cefindrato_check_drat(cnf, strlen(cnf), "", 0, CEFINDRATO_TOLD, NULL, 1, NULL, 0, NULL, 0).status ==
+    is_so("null", cefindrato_check_drat(cnf, strlen(cnf), "", 0, CEFINDRATO_DETECTED, NULL, 1, NULL, 0, NULL, 0).status ==
                       CEFINDRATO_NOT_RUN);
-    is_so("null core", cefindrato_check_drat(cnf, strlen(cnf), "", 0, CEFINDRATO_TOLD, NULL, 0, NULL, 1, NULL, 0).status ==
+    is_so("null core", cefindrato_check_drat(cnf, strlen(cnf), "", 0, CEFINDRATO_DETECTED, NULL, 0, NULL, 1, NULL, 0).status ==
                            CEFINDRATO_NOT_RUN);
-    is_so("nothing", cefindrato_check_drat(NULL, 0, NULL, 0, CEFINDRATO_TOLD, NULL, 0, NULL, 0, NULL, 0).status ==
+    is_so("nothing", cefindrato_check_drat(NULL, 0, NULL, 0, CEFINDRATO_DETECTED, NULL, 0, NULL, 0, NULL, 0).status ==
                          CEFINDRATO_NOT_VERIFIED);
 }
 

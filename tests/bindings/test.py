@@ -34,6 +34,8 @@ def refused(call, *arguments, **named):
 
 def of_drat():
     assert cefindrato.check_drat(FOUR, b"1 0\n0\n") == (True, None, None)
+    former = cefindrato.check_drat(FOUR, b"1 0\n0\n", format="told")
+    assert former == (True, None, None)
     assert cefindrato.check_drat(FOUR, b"a\x02\x00a\x00").verified is True
     assert cefindrato.check_drat(b"1 2 0", b"", lrat=True, core=True) == (False, None, None)
     checked = cefindrato.check_drat(b"3 0 " + FOUR, b"1 0\n0\n", format="drat", lrat=True, core=True)

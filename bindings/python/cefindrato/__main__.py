@@ -59,7 +59,7 @@ def arguments():
         one.add_argument("second", metavar=second)
         if kind == "drat":
             formats = one.add_mutually_exclusive_group()
-            formats.add_argument("--drat", dest="format", action="store_const", const="drat", default="told")
+            formats.add_argument("--drat", dest="format", action="store_const", const="drat", default="detected")
             formats.add_argument("--frat", dest="format", action="store_const", const="frat")
             formats.add_argument("--lpr", dest="format", action="store_const", const="lpr")
             one.add_argument("--lrat", metavar="FILE", help="writes the proof as LRAT text")

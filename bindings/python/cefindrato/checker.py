@@ -52,7 +52,7 @@ _WORD = 2**64
 
 
 class Step(IntEnum):
-    """The kinds of a step: `cefindrato_checker.h` tells when each is accepted."""
+    """The kinds of a step: `cefindrato_checker.h` says when each is accepted."""
 
     ADD_CLAUSE = 1
     AT_CLAUSE = 2
@@ -104,4 +104,4 @@ class Checker(Handled):
 
     def unsat(self) -> bool:
         """Whether unsatisfiability is recorded: then no assignment satisfies the clauses, and no later query has a model."""
-        return self._told("unsat", ctypes.c_bool)
+        return self._ask("unsat", ctypes.c_bool)

@@ -2,7 +2,7 @@
 
 
 class Fault(Exception):
-    """A text was refused or could not be read; the message tells which, and why."""
+    """A text was rejected or could not be read; the message says which, and why."""
 
 
 class OutOfMemory(Fault, MemoryError):

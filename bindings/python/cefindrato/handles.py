@@ -23,12 +23,12 @@ def _array(kind: type, numbers: List[int], bits: int, least: int, why: str) -> L
 
 
 def literals(numbers: Iterable[SupportsIndex], what: str) -> List[object]:
-    """Literals; `what` tells of what they are."""
+    """Literals; `what` says what they are."""
     return _array(ctypes.c_int32, listed(numbers, what), 32, -(2**31), NO_LITERAL)
 
 
 def words(numbers: Iterable[SupportsIndex], what: str) -> List[object]:
-    """Numbers of 64 bits; `what` tells what one of them is."""
+    """Numbers of 64 bits; `what` says what one of them is."""
     return _array(ctypes.c_uint64, listed(numbers, "the list", "whole number"), 64, 0, f"{what} has more than 64 bits or a sign")
 
 
@@ -66,7 +66,7 @@ class Handled:
         """Why a call is not accepted."""
         raise NotImplementedError
 
-    def _told(self, name: str, kind: Any, *arguments: object) -> Any:
+    def _ask(self, name: str, kind: Any, *arguments: object) -> Any:
         """What the library answers to a call."""
         call = getattr(loaded(), f"{self._calls}_{name}")
         call.restype = kind
@@ -74,7 +74,7 @@ class Handled:
             return call(ctypes.byref(self._handle), *arguments)
 
     def _call(self, name: str, *arguments: object) -> None:
-        answer = self._told(name, self._answer, *arguments)
+        answer = self._ask(name, self._answer, *arguments)
         if answer.status == OUT_OF_MEMORY:
             raise OutOfMemory("out of memory")
         if answer.status != VERIFIED:
@@ -83,4 +83,4 @@ class Handled:
     def close(self) -> None:
         """Frees what the library keeps, if there is anything."""
         if self._handle.held:
-            self._told("end", None)
+            self._ask("end", None)

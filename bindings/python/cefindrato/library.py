@@ -16,8 +16,9 @@ from .faults import Fault, OutOfMemory
 
 Text = Union[bytes, bytearray, memoryview, mmap]
 VERIFIED, FAULT, NOT_RUN, NOT_VERIFIED, OUT_OF_MEMORY = range(5)
-FORMATS = {"told": 0, "drat": 1, "frat": 2, "lpr": 3}
-_ROOM = 512
+FORMATS = {"detected": 0, "drat": 1, "frat": 2, "lpr": 3}
+_FORMER = {"told": "detected"}
+_TEXT_SIZE = 512
 
 
 class Checked(NamedTuple):
@@ -110,43 +111,45 @@ def _held(text: Text) -> Iterator[Tuple[int, int]]:
         _release_buffer(ctypes.byref(buffer))
 
 
-def _is_verified(answer, room) -> bool:
+def _is_verified(answer, text) -> bool:
     if answer.status in (VERIFIED, NOT_VERIFIED):
         return answer.status == VERIFIED
-    why = room.raw[: answer.text.len].decode(errors="replace")
+    why = text.raw[: answer.text.len].decode(errors="replace")
     raise OutOfMemory(why) if answer.status == OUT_OF_MEMORY else Fault(why)
 
 
 def check(cnf: Text, proof: Text) -> bool:
-    """Whether the LRAT proof, text or binary, shows that no assignment satisfies the formula; a Fault where it is refused."""
-    room = ctypes.create_string_buffer(_ROOM)
+    """Whether the LRAT proof, text or binary, shows that no assignment satisfies the formula; a Fault where it is rejected."""
+    text = ctypes.create_string_buffer(_TEXT_SIZE)
     with _held(cnf) as formula, _held(proof) as lines:
-        answer = loaded().cefindrato_lrat_check(*formula, *lines, ctypes.addressof(room), _ROOM)
-    return _is_verified(answer, room)
+        answer = loaded().cefindrato_lrat_check(*formula, *lines, ctypes.addressof(text), _TEXT_SIZE)
+    return _is_verified(answer, text)
 
 
-def check_drat(cnf: Text, proof: Text, format: str = "told", lrat: bool = False, core: bool = False) -> Checked:
-    """What the DRAT, DPR or FRAT proof, text or binary, or the LPR text, shows of the formula; a Fault where it is refused.
+def check_drat(cnf: Text, proof: Text, format: str = "detected", lrat: bool = False, core: bool = False) -> Checked:
+    """What the DRAT, DPR or FRAT proof, text or binary, or the LPR text, shows of the formula; a Fault where it is rejected.
 
-    The format is `drat`, `frat` or `lpr`, or `told` by the first bytes of the proof. Where the proof is verified there are also what is
-    wanted of `lrat`, the proof as LRAT text, and `core`, the clauses that it uses as DIMACS text. LRAT text that is longer than
-    eight times the proof and a megabyte has the proof checked twice.
+    The format is `drat`, `frat` or `lpr`, or `detected` from the first bytes of the proof, whose
+    deprecated name is `told`. Where the proof is verified there are also what is wanted of `lrat`,
+    the proof as LRAT text, and `core`, the clauses that it uses as DIMACS text. LRAT text that is
+    longer than eight times the proof and a megabyte has the proof checked twice.
     """
+    format = _FORMER.get(format, format)
     if format not in FORMATS:
         raise ValueError(f"no format of a proof: {format!r}; there are {', '.join(FORMATS)}")
     options = _Options(FORMATS[format], lrat, core)
-    room = ctypes.create_string_buffer(_ROOM)
+    text = ctypes.create_string_buffer(_TEXT_SIZE)
     with _held(cnf) as formula, _held(proof) as steps:
         used = ctypes.create_string_buffer(formula[1] + 64 if core else 1)
         size = 8 * steps[1] + (1 << 20) if lrat else 1
         while True:
             lines = ctypes.create_string_buffer(size)
-            rooms = [argument for it in (lines, used, room) for argument in (ctypes.addressof(it), len(it))]
-            answer = loaded().cefindrato_drat_check(*formula, *steps, options, *rooms)
+            buffers = [argument for it in (lines, used, text) for argument in (ctypes.addressof(it), len(it))]
+            answer = loaded().cefindrato_drat_check(*formula, *steps, options, *buffers)
             if answer.lrat.len == answer.lrat.whole:
                 break
             size = answer.lrat.whole
-    verified = _is_verified(answer, room)
+    verified = _is_verified(answer, text)
     return Checked(
         verified,
         ctypes.string_at(lines, answer.lrat.len) if verified and lrat else None,
@@ -156,13 +159,13 @@ def check_drat(cnf: Text, proof: Text, format: str = "told", lrat: bool = False,
 
 def check_model(cnf: Text, answer: Text) -> Model:
     """Whether every assignment that agrees with the solver's answer satisfies the formula, and there is one; a Fault where a text is
-    refused."""
-    room = ctypes.create_string_buffer(_ROOM)
+    rejected."""
+    text = ctypes.create_string_buffer(_TEXT_SIZE)
     with _held(cnf) as formula, _held(answer) as literals:
-        told = loaded().cefindrato_model_check(*formula, *literals, ctypes.addressof(room), _ROOM)
-    if _is_verified(told, room):
+        result = loaded().cefindrato_model_check(*formula, *literals, ctypes.addressof(text), _TEXT_SIZE)
+    if _is_verified(result, text):
         return Model(True, None, None)
-    return Model(False, told.clause, told.line)
+    return Model(False, result.clause, result.line)
 
 
 def version() -> str:

@@ -14,7 +14,7 @@ def is_text(it: Any) -> bool:
     return isinstance(it, (str, os.PathLike, *TEXTS))
 
 
-def _refused(it: Any, what: str, given: List[Any], kind: str) -> NoReturn:
+def _reject(it: Any, what: str, given: List[Any], kind: str) -> NoReturn:
     """Of kind "literal" or "whole number"."""
     of_literals = ": literals are whole numbers from 1 to 2^28 or their negatives, and no 0 ends them" if kind == "literal" else ""
     raise ValueError(f"{it!r} is no {kind}, in {what} {reprlib.repr(given)}{of_literals}")
@@ -33,11 +33,11 @@ def listed(numbers: Any, what: str, kind: str = "literal") -> List[int]:
     for it in given:
         # (numpy 1 has an index of its bools)
         if type(it).__name__ in ("bool", "bool_"):
-            _refused(it, what, given, kind)
+            _reject(it, what, given, kind)
         try:
             found.append(operator.index(it))
         except TypeError:
-            _refused(it, what, given, kind)
+            _reject(it, what, given, kind)
     return found
 
 
@@ -46,5 +46,5 @@ def literals(numbers: Any, what: str) -> List[int]:
     found = listed(numbers, what)
     for it in found:
         if it == 0 or abs(it) > _TOP:
-            _refused(it, what, found, "literal")
+            _reject(it, what, found, "literal")
     return found

@@ -4,7 +4,7 @@
         check.write(b"5 1 0 1 2 0\\n")
         check.finish()
 
-The state is the program's own. `lrat_check` judges each line as it comes, and ends at the first that is refused and at the
+The state is the program's own. `lrat_check` judges each line as it comes, and ends at the first that is rejected and at the
 empty clause.
 """
 
@@ -60,7 +60,7 @@ class Running:
         return True
 
     def finish(self) -> bool:
-        """Ends the proof. Whether it shows that no assignment satisfies the formula; a Fault where it is refused."""
+        """Ends the proof. Whether it shows that no assignment satisfies the formula; a Fault where it is rejected."""
         if self._program.returncode is None:
             _, self._said = self._program.communicate()
         if self._is_cancelled:

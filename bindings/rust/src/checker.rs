@@ -1,4 +1,5 @@
-//! The ported checker of varisat's proofs, step by step, under the names of the crate `varisat-checker`.
+//! The ported checker of varisat's proofs, step by step, under the names of the crate `varisat-checker`. The crate of that name in the
+//! folder `varisat-checker` has its whole interface, over this module.
 //!
 //! A lemma or a failed core names the clauses that it needs by their hashes, in the order of propagation. A unit clause is known
 //! without a hash.
@@ -25,8 +26,8 @@ use std::fmt;
 /// The hash of a clause.
 pub type ClauseHash = u64;
 
-/// The hash of the literal of a code.
-fn lit_code_hash(code: usize) -> ClauseHash {
+/// The hash of the literal of a code; of a literal without a solver name, of its code plus 2^29.
+pub fn lit_code_hash(code: usize) -> ClauseHash {
     (!(code as u64)).wrapping_mul(0x61c8_8646_80b5_83eb)
 }
 

@@ -41,7 +41,7 @@ pub enum ModelVerdict {
     },
 }
 
-/// Why there is no verdict: a text was refused, or there was no memory.
+/// Why there is no verdict: a text was rejected, or there was no memory.
 #[derive(Clone, Debug, PartialEq, Eq)]
 pub struct Fault {
     text: String,
@@ -66,9 +66,9 @@ impl std::error::Error for Fault {}
 /// The format of a proof.
 #[derive(Clone, Copy, Debug, Default, PartialEq, Eq)]
 pub enum Format {
-    /// Its first bytes tell it: FRAT, or else DPR, which is DRAT whose additions may have witnesses.
+    /// Detected from its first bytes: FRAT, or else DPR, which is DRAT whose additions may have witnesses.
     #[default]
-    Told,
+    Detected,
     /// DRAT, text or binary.
     Drat,
     /// FRAT, text or binary.
@@ -77,7 +77,14 @@ pub enum Format {
     Lpr,
 }
 
-/// What [`check_drat`] is told of a proof, and what is wanted beside its verdict.
+impl Format {
+    /// The name of `Detected` up to version 0.4.
+    #[allow(non_upper_case_globals)]
+    #[deprecated(note = "`Format::Detected` is its name")]
+    pub const Told: Format = Format::Detected;
+}
+
+/// The format of a proof, and what is wanted beside its verdict.
 #[derive(Clone, Copy, Debug, Default, PartialEq, Eq)]
 pub struct DratOptions {
     /// The format of the proof.
@@ -101,24 +108,24 @@ pub struct DratAnswer {
 
 /// Checks an LRAT proof, text or binary, against a DIMACS text.
 pub fn check(cnf: &[u8], proof: &[u8]) -> Result<Verdict, Fault> {
-    let mut room = library::text_room();
-    let answer = library::lrat_check(cnf, proof, &mut room);
-    verdict_of(answer.status, &room[..answer.text.len])
+    let mut text = library::text_buffer();
+    let answer = library::lrat_check(cnf, proof, &mut text);
+    verdict_of(answer.status, &text[..answer.text.len])
 }
 
 /// Checks a DRAT, DPR or FRAT proof, text or binary, or LPR text, against a DIMACS text.
 ///
 /// Where LRAT text is wanted that is longer than eight times the proof and a megabyte, the proof is checked twice.
 pub fn check_drat(cnf: &[u8], proof: &[u8], options: DratOptions) -> Result<DratAnswer, Fault> {
-    let mut room = library::text_room();
+    let mut text = library::text_buffer();
     let mut core = vec![0; if options.core { cnf.len() + 64 } else { 0 }];
     let mut lrat = vec![0; if options.lrat { 8 * proof.len() + (1 << 20) } else { 0 }];
-    let mut answer = library::drat_check(cnf, proof, options, &mut lrat, &mut core, &mut room);
+    let mut answer = library::drat_check(cnf, proof, options, &mut lrat, &mut core, &mut text);
     if answer.lrat.len < answer.lrat.whole {
         lrat.resize(answer.lrat.whole, 0);
-        answer = library::drat_check(cnf, proof, options, &mut lrat, &mut core, &mut room);
+        answer = library::drat_check(cnf, proof, options, &mut lrat, &mut core, &mut text);
     }
-    let verdict = verdict_of(answer.status, &room[..answer.text.len])?;
+    let verdict = verdict_of(answer.status, &text[..answer.text.len])?;
     lrat.truncate(answer.lrat.len);
     core.truncate(answer.core.len);
     let is_verified = verdict == Verdict::Verified;
@@ -131,11 +138,11 @@ pub fn check_drat(cnf: &[u8], proof: &[u8], options: DratOptions) -> Result<Drat
 
 /// Checks a solver's answer that a formula is satisfiable against a DIMACS text.
 pub fn check_model(cnf: &[u8], answer: &[u8]) -> Result<ModelVerdict, Fault> {
-    let mut room = library::text_room();
-    let told = library::model_check(cnf, answer, &mut room);
-    Ok(match verdict_of(told.status, &room[..told.text.len])? {
+    let mut text = library::text_buffer();
+    let result = library::model_check(cnf, answer, &mut text);
+    Ok(match verdict_of(result.status, &text[..result.text.len])? {
         Verdict::Verified => ModelVerdict::Verified,
-        Verdict::NotVerified => ModelVerdict::NotVerified { clause: told.clause, line: told.line },
+        Verdict::NotVerified => ModelVerdict::NotVerified { clause: result.clause, line: result.line },
     })
 }
 

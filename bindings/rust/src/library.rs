@@ -8,8 +8,8 @@ pub const VERIFIED: u8 = 0;
 pub const NOT_VERIFIED: u8 = 3;
 pub const OUT_OF_MEMORY: u8 = 4;
 
-/// Room for the text of a fault.
-pub fn text_room() -> [u8; 512] {
+/// A buffer for the text of a fault.
+pub fn text_buffer() -> [u8; 512] {
     [0; 512]
 }
 
@@ -106,7 +106,7 @@ extern "C" {
     fn cefindrato_checker_unsat(checker: *mut Handle) -> bool;
 }
 
-// SAFETY, of each call: a pointer and its length are of one slice, no slice has a null pointer, and rooms and handles are borrowed
+// SAFETY, of each call: a pointer and its length are of one slice, no slice has a null pointer, and buffers and handles are borrowed
 // mutably, so they overlap nothing. The library keeps no pointer. A literal is the 32 bits of its DIMACS number.
 
 pub fn lrat_check(cnf: &[u8], proof: &[u8], text: &mut [u8]) -> LratAnswer {
@@ -124,7 +124,7 @@ pub fn drat_check(
     text: &mut [u8],
 ) -> DratAnswer {
     let format = match options.format {
-        Format::Told => 0,
+        Format::Detected => 0,
         Format::Drat => 1,
         Format::Frat => 2,
         Format::Lpr => 3,

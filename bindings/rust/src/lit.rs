@@ -21,6 +21,16 @@ impl Lit {
         Lit(number as i32)
     }
 
+    /// The literal of a code.
+    ///
+    /// # Panics
+    ///
+    /// If the code is 2^29 or more.
+    pub fn from_code(code: usize) -> Lit {
+        let number = code as isize / 2 + 1;
+        Lit::from_dimacs(if code % 2 == 0 { number } else { -number })
+    }
+
     /// Its DIMACS number.
     pub fn to_dimacs(self) -> isize {
         self.0 as isize

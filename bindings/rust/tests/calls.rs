@@ -35,6 +35,12 @@ fn drat() {
     assert_eq!(fault(check_drat(FOUR, proof, drat)).0, "proof: step 1: malformed");
 }
 
+#[test]
+#[allow(deprecated)]
+fn former_names() {
+    assert_eq!((Format::default(), Format::Told), (Format::Detected, Format::Detected));
+}
+
 /// The clause `3` is not used, and what is put is a proof and a formula again.
 #[test]
 fn outputs() {
