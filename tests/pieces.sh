@@ -824,21 +824,24 @@ END
   fails 1 'is refused' pieces run formula.cnf eight.drat last --lemmas 50 --live 100000 --memory
 }
 
-# Where pieces wait, no more of the proof is read than lies in pipes.
+# Where pieces wait, no more of the proof is under way than three portions of 4 kB: what is handed on, in the pipe, and in the cutter.
 case_waiting() {
   python3 -B "$top/tests/drat/formulas.py" pigeons 20 > twenty.cnf
   python3 -B "$top/tests/drat/formulas.py" extended 20 > twenty.drat
+  lengths=(--lemmas 300 --live 100000)
+  pieces cut twenty.cnf twenty.drat whole "${lengths[@]}" > said
+  smallest=$(find whole -name '*.drat' ! -name "$(cat whole/count).drat" -printf '%s\n' | sort -n | sed -n 1p)
   solver slow_check << END
 ls $work/twenty | grep -c 'drat$' >> $work/waiting
 sleep 0.1
 exec drat_check "\$@"
 END
   rm -f waiting
-  DRAT_CHECK=slow_check fails 0 's VERIFIED UNSAT BY ' \
-    pieces run twenty.cnf twenty.drat twenty --lemmas 300 --live 100000 --jobs 1 --ahead 1
-  # (without a wait all are there; what is handed on and no piece yet is a block of 64 kB, as much in the pipe, and half as much in the cutter)
-  if (($(cat twenty/count) < 80 || $(sort -n waiting | tail -n 1) > 16)); then
-    printf '%d pieces, of which so many were there: %s\n' "$(cat twenty/count)" "$(tr '\n' ' ' < waiting)"
+  DRAT_CHECK=slow_check fails 0 's VERIFIED UNSAT BY ' pieces run twenty.cnf twenty.drat twenty "${lengths[@]}" --jobs 1 --ahead 1
+  # (one is checked and one waits; the first byte of what is under way may end a piece, and each further one has as many bytes as the smallest)
+  most=$((1 + 1 + 1 + 3 * 4096 / smallest))
+  if (($(cat twenty/count) < 80 || $(sort -n waiting | tail -n 1) > most)); then
+    printf '%d pieces, of which so many were there, at most %d: %s\n' "$(cat twenty/count)" "$most" "$(tr '\n' ' ' < waiting)"
     wrong=1
   fi
 }
