@@ -100,7 +100,7 @@ case_drat_cut() {
   says 0 's VERIFIED UNSAT' drat_check cut.2.cnf cut.2.drat
 }
 
-# The same pieces as LRAT, text and binary, and one by hand: a piece that ends with a line that is refused, a clause that was deleted,
+# The same pieces as LRAT, text and binary, and one by hand: a piece that ends with a line that is rejected, a clause that was deleted,
 # that stands in another order or has a literal turned, and files that are not there, no formula or standard input.
 case_lrat() {
   says 0 's VERIFIED PIECE' drat_check eight.cnf cut.1.drat --holds cut.2.cnf --lrat one.lrat
@@ -232,18 +232,18 @@ case_joined() {
 case_kept() {
   says 1 $'1: what is kept is of another formula\n1 of 2 pieces are not verified' pieces report seven.cnf two
   joins 3 seven.cnf
-  fails 1 '1: two/1.drat is refused' pieces check seven.cnf two 1
+  fails 1 '1: two/1.drat is rejected' pieces check seven.cnf two 1
   says 1 $'1: not verified\n1 of 2 pieces are not verified' pieces report eight.cnf two
   says 0 '' pieces check eight.cnf two 1
   cp two/2.cnf kept
   sed -i 's/^1 -2 0$/1 2 0/' two/2.cnf
   says 0 "$whole" pieces report eight.cnf two
-  fails 1 '2: two/2.drat is refused' pieces check eight.cnf two 2
+  fails 1 '2: two/2.drat is rejected' pieces check eight.cnf two 2
   says 1 $'2: not verified\n1 of 2 pieces are not verified' pieces report eight.cnf two
   # a literal is turned: the piece before does not hold the clause, and the one behind is of clauses that can be satisfied
   sed 's/^-1 2 0$/-1 -2 0/' kept > two/2.cnf
-  fails 1 '1: two/1.drat is refused' pieces check eight.cnf two 1
-  fails 1 '2: two/2.drat is refused' pieces check eight.cnf two 2
+  fails 1 '1: two/1.drat is rejected' pieces check eight.cnf two 1
+  fails 1 '2: two/2.drat is rejected' pieces check eight.cnf two 2
   { sed 's/p cnf 3 5/p cnf 3 6/' kept; echo '3 0'; } > two/2.cnf
   says 0 '' pieces check eight.cnf two 2
   cp kept two/2.cnf
@@ -267,7 +267,7 @@ case_damaged() {
   head -n 3 two/1.drat > held
   mv two/1.drat whole
   mv held two/1.drat
-  fails 1 '1: two/1.drat is refused' pieces check eight.cnf two 1
+  fails 1 '1: two/1.drat is rejected' pieces check eight.cnf two 1
   mv whole two/1.drat
   says 0 '' pieces check eight.cnf two 1
   says 0 '' pieces check eight.cnf two 2
@@ -304,11 +304,11 @@ case_beside() {
   PATH=$work/false:$PATH says 0 "$whole" alone/bin/pieces run eight.cnf eight.drat beside --lemmas 1
 }
 
-# Cut and checked at once: a verified piece is deleted, one that is refused stays.
+# Cut and checked at once: a verified piece is deleted, one that is rejected stays.
 case_run() {
   says 0 "$whole" pieces run eight.cnf - ran --lemmas 1 --jobs 2 < eight.drat
   says 0 $'1.receipt\n2.receipt\ncount\ncut' ls ran
-  fails 1 '2: ran/2.drat is refused' pieces run eight.cnf weak.drat ran --lemmas 1
+  fails 1 '2: ran/2.drat is rejected' pieces run eight.cnf weak.drat ran --lemmas 1
   says 0 $'1.receipt\n2.cnf\n2.drat\ncount\ncut' ls ran
 }
 
@@ -317,7 +317,7 @@ case_lies() {
   for lie in 'kill -KILL $$' 'exit 0' 'echo s VERIFIED; exit 0' 'echo s VERIFIED PIECE; exit 1' 'echo s VERIFIED UNSAT; exit 3'; do
     printf '#!/bin/sh\ncase $2 in */1.drat) %s ;; esac\nexec drat_check "$@"\n' "$lie" > bin/lies
     chmod +x bin/lies
-    DRAT_CHECK=lies fails 1 '1: ran/1.drat is refused: ' pieces run eight.cnf eight.drat ran --lemmas 1
+    DRAT_CHECK=lies fails 1 '1: ran/1.drat is rejected: ' pieces run eight.cnf eight.drat ran --lemmas 1
   done
 }
 
@@ -423,18 +423,18 @@ case_jobs() {
   holds order $'begin\nend\nbegin\nend'
 }
 
-# The last piece first: each shows what the one behind it has used, and no more. A lemma that is wrong and that no piece needs is refused
+# The last piece first: each shows what the one behind it has used, and no more. A lemma that is wrong and that no piece needs is rejected
 # where all that lives is shown.
 case_memory() {
   says 0 "$whole" pieces run eight.cnf eight.drat last --lemmas 1 --memory
   says 0 $'1.receipt\n2.receipt\ncount\ncut' ls last
   DRAT_CUT=./none DRAT_CHECK=./none says 0 "$whole" pieces run eight.cnf eight.drat last --lemmas 1 --memory
   says 0 "$whole" pieces run eight.cnf - last --lemmas 1 --memory < eight.drat
-  fails 1 '2: last/2.drat is refused' pieces run eight.cnf weak.drat last --lemmas 1 --memory
+  fails 1 '2: last/2.drat is rejected' pieces run eight.cnf weak.drat last --lemmas 1 --memory
   says 0 $'1.cnf\n1.drat\n2.cnf\n2.drat\ncount\ncut' ls last
   { cat eight.cnf; printf '4 5 0\n4 -5 6 0\n'; } | sed 's/^p cnf 3 9/p cnf 6 11/' > more.cnf
   { echo '-4 0'; cat eight.drat; } > unneeded.drat
-  fails 1 '1: ran/1.drat is refused' pieces run more.cnf unneeded.drat ran --lemmas 1 --live 100
+  fails 1 '1: ran/1.drat is rejected' pieces run more.cnf unneeded.drat ran --lemmas 1 --live 100
   says 0 "$whole" pieces run more.cnf unneeded.drat last --lemmas 1 --live 100 --memory
   says 2 'cannot open none.cnf: No such file or directory' pieces run none.cnf eight.drat last --memory
 }
@@ -444,7 +444,7 @@ case_cores() {
   for damage in '$d' '1s/ [0-9]*$/ 1000/' '$s/ 0$//' 1d; do
     printf '%s\n' '#!/bin/sh' 'drat_check "$@" || exit' 'for core; do :; done' "sed -i '$damage' \"\$core\"" > bin/cuts_off
     chmod +x bin/cuts_off
-    DRAT_CHECK=cuts_off says 1 $'2: last/2.drat is refused: the clauses that it used are not whole\n1: not verified\n2: not verified\n2 of 2 pieces are not verified' \
+    DRAT_CHECK=cuts_off says 1 $'2: last/2.drat is rejected: the clauses that it used are not whole\n1: not verified\n2: not verified\n2 of 2 pieces are not verified' \
       pieces run eight.cnf eight.drat last --lemmas 1 --memory
   done
   printf '#!/bin/sh\necho s VERIFIED UNSAT\n' > bin/cuts_off
@@ -458,7 +458,7 @@ case_twice() {
   printf '#!/bin/sh\n[ "$1" != twice.cnf ] || exit 9\nexec drat_check "$@"\n' > bin/not_the_first
   chmod +x bin/not_the_first
   anew=(pieces run twice.cnf twice.drat twice --lemmas 1 --live 100 --memory)
-  DRAT_CHECK=not_the_first fails 1 '1: twice/1.drat is refused: not_the_first ended with status 9' "${anew[@]}"
+  DRAT_CHECK=not_the_first fails 1 '1: twice/1.drat is rejected: not_the_first ended with status 9' "${anew[@]}"
   rm twice/2.receipt
   says 0 's VERIFIED UNSAT BY 3 RECEIPTS' "${anew[@]}"
   says 0 $'1.receipt\n2.receipt\n3.receipt\ncount\ncut' ls twice
@@ -562,9 +562,9 @@ case_packed() {
     DRAT_CUT=./none DRAT_CHECK=./none says 0 "$whole" pieces run "${packed[@]}" --memory
     for way in '' --memory; do
       # shellcheck disable=SC2086
-      fails 1 'is refused' pieces run "seven.cnf.$end" "eight.drat.$end" "$end" --lemmas 1 $way
+      fails 1 'is rejected' pieces run "seven.cnf.$end" "eight.drat.$end" "$end" --lemmas 1 $way
       # shellcheck disable=SC2086
-      fails 1 "2: $end/2.drat is refused" pieces run eight.cnf "weak.drat.$end" "$end" --lemmas 1 $way
+      fails 1 "2: $end/2.drat is rejected" pieces run eight.cnf "weak.drat.$end" "$end" --lemmas 1 $way
       for proof in eight.drat eight.long; do
         # shellcheck disable=SC2086
         fails 2 "cannot unpack cut.$proof.$end: " pieces run eight.cnf "cut.$proof.$end" "$end" --lemmas 1 $way
@@ -740,7 +740,7 @@ case_exchanges() {
     echo "the proof with witnesses is not cut"
     wrong=1
   fi
-  fails 1 'is refused' pieces run pigeons.cnf exchanges plain --lemmas 10 --live 100000 --drat
+  fails 1 'is rejected' pieces run pigeons.cnf exchanges plain --lemmas 10 --live 100000 --drat
 }
 
 # A proof with definitions, in pieces: Cook's, of the pigeonhole.
@@ -754,7 +754,7 @@ case_definitions() {
 }
 
 # With the last piece first an interrupted run goes on: what is verified stays so where the clauses before it are those that it has used, and a
-# damage to clauses between two pieces is refused by one of them. Of another proof or formula, or cut by other options, nothing is kept.
+# damage to clauses between two pieces is rejected by one of them. Of another proof or formula, or cut by other options, nothing is kept.
 case_goes_on() {
   solver stops << END
 case \$1 in last/\$(cat $work/stop).cnf) exit 9 ;; esac
@@ -766,7 +766,7 @@ END
   stopped() {
     echo 3 > stop
     rm -rf last
-    DRAT_CHECK=stops fails 1 '3: last/3.drat is refused: stops ended with status 9' "${backward[@]}"
+    DRAT_CHECK=stops fails 1 '3: last/3.drat is rejected: stops ended with status 9' "${backward[@]}"
     echo 0 > stop
     rm tried
   }
@@ -789,11 +789,11 @@ END
   stopped
   turns last/4.cnf 2
   as_core
-  goes_on 1 '4: last/4.drat is refused'
+  goes_on 1 '4: last/4.drat is rejected'
   stopped
   sed -i 2d last/4.cnf
   as_core
-  goes_on 1 '4: last/4.drat is refused'
+  goes_on 1 '4: last/4.drat is rejected'
   # where it is whole, the core is made anew
   stopped
   turns last/4.cnf 2
@@ -819,9 +819,9 @@ END
   fails 0 "$refuted" pieces run formula.cnf cook.drat last --lemmas 100 --live 100000 --memory
   stopped
   sed '2s/ 0$/ 1000 0/' formula.cnf > wider.cnf
-  fails 1 'is refused' pieces run wider.cnf cook.drat last --lemmas 50 --live 100000 --memory
+  fails 1 'is rejected' pieces run wider.cnf cook.drat last --lemmas 50 --live 100000 --memory
   stopped
-  fails 1 'is refused' pieces run formula.cnf eight.drat last --lemmas 50 --live 100000 --memory
+  fails 1 'is rejected' pieces run formula.cnf eight.drat last --lemmas 50 --live 100000 --memory
 }
 
 # Where pieces wait, no more of the proof is under way than three portions of 4 kB: what is handed on, in the pipe, and in the cutter.
@@ -942,7 +942,7 @@ END
   mv pieces/2.drat held
   mv pieces/3.drat pieces/2.drat
   mv held pieces/3.drat
-  fails 1 'is refused' pieces check formula.cnf pieces 2 3
+  fails 1 'is rejected' pieces check formula.cnf pieces 2 3
 }
 
 # A proof of another formula; and a solver beside its pieces.
@@ -950,9 +950,9 @@ case_solver() {
   only_with cadical
   python3 -B "$top/tests/drat/formulas.py" multiplier 5 > multiplier.cnf
   cadical -q multiplier.cnf multiplier.drat > said || true
-  fails 1 '1: foreign/1.drat is refused' pieces run formula.cnf multiplier.drat foreign --lemmas 500
+  fails 1 '1: foreign/1.drat is rejected' pieces run formula.cnf multiplier.drat foreign --lemmas 500
   fails 0 "$unsat" pieces run multiplier.cnf multiplier.drat right --lemmas 500
-  fails 1 'is refused' pieces run formula.cnf multiplier.drat foreign --lemmas 500 --memory
+  fails 1 'is rejected' pieces run formula.cnf multiplier.drat foreign --lemmas 500 --memory
   fails 0 "$unsat" pieces run multiplier.cnf multiplier.drat right --lemmas 500 --memory
   ends 20 "$unsat BY * RECEIPTS" checked --while cadical multiplier.cnf
   ends 20 "$unsat BY * RECEIPTS" checked --while cadical formula.cnf
