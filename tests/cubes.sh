@@ -60,14 +60,14 @@ case_refused() {
   mv four/1.lrat other
   mv four/2.lrat four/1.lrat
   mv other four/2.lrat
-  refused='is refused: proof: line 1: clause of a hint is not unit'
+  refused='is rejected: proof: line 1: clause of a hint is not unit'
   says 1 "1: four/1.lrat $refused; it is a proof of 2"$'\n'"2: four/2.lrat $refused; it is a proof of 1" \
     cubes check --whose four.cnf two.txt four 1 2
   says 1 $'1: not verified\n2: not verified\n2 of 3 parts are not verified' cubes report four.cnf two.txt four
   echo '6 2 0 5 3 0' > four/1.lrat
-  says 1 '1: four/1.lrat is refused: s NOT VERIFIED' cubes check four.cnf two.txt four 1
+  says 1 '1: four/1.lrat is rejected: s NOT VERIFIED' cubes check four.cnf two.txt four 1
   echo 'x' > four/1.lrat
-  says 1 '1: four/1.lrat is refused: proof: line 1: malformed line; it is a proof of no part' \
+  says 1 '1: four/1.lrat is rejected: proof: line 1: malformed line; it is a proof of no part' \
     cubes check --whose four.cnf two.txt four 1
   rm four/1.lrat
   says 1 '1: no proof' cubes check four.cnf two.txt four 1
@@ -93,9 +93,9 @@ case_satisfied() {
   says 0 $'2\nclosing' cubes left open_at_2.cnf two.txt found
   says 1 $'1: what is kept is of another formula or cube\n2: no proof\nclosing: no proof\n3 of 3 parts are not verified' \
     cubes report four.cnf two.txt found
-  says 1 $'1: found/1.answer is refused: s NOT VERIFIED\n1: no proof' cubes check four.cnf two.txt found 1
+  says 1 $'1: found/1.answer is rejected: s NOT VERIFIED\n1: no proof' cubes check four.cnf two.txt found 1
   printf 's SATISFIABLE\nv 1 -2 0\n' > found/1.answer
-  says 1 $'1: found/1.answer is refused: s NOT VERIFIED\n1: no proof' cubes check open_at_2.cnf two.txt found 1
+  says 1 $'1: found/1.answer is rejected: s NOT VERIFIED\n1: no proof' cubes check open_at_2.cnf two.txt found 1
   says 1 $'1: no proof\n2: no proof\nclosing: no proof\n3 of 3 parts are not verified' cubes report open_at_2.cnf two.txt found
 }
 
@@ -253,7 +253,7 @@ case_dash() {
   cp four/*.lrat dash/-f
   (
     cd dash
-    says 1 $'1: ./1.answer is refused: s NOT VERIFIED\n1: no proof' cubes check - ../two.txt . 1 < ../open_at_2.cnf
+    says 1 $'1: ./1.answer is rejected: s NOT VERIFIED\n1: no proof' cubes check - ../two.txt . 1 < ../open_at_2.cnf
     says 0 '' cubes check -- - ../two.txt -f 1 2 closing
     exit "$wrong"
   ) || wrong=1
@@ -281,7 +281,7 @@ case_words() {
   for place in '--whose check four.cnf two.txt four 1' 'check four.cnf --whose two.txt four 1' 'check four.cnf two.txt four 1 --whose'; do
     cp four/2.lrat four/1.lrat
     read -r -a words <<< "$place"
-    says 1 '1: four/1.lrat is refused: proof: line 1: clause of a hint is not unit; it is a proof of 2' cubes "${words[@]}"
+    says 1 '1: four/1.lrat is rejected: proof: line 1: clause of a hint is not unit; it is a proof of 2' cubes "${words[@]}"
   done
   echo '6 0 5 3 4 0' > four/1.lrat
   says 0 "$(cubes --help)" cubes -h
@@ -301,7 +301,7 @@ case_standard_output() {
   faults 'lrat_check cannot be asked: word 2 of the call is not UTF-8: \xff/1.lrat' cubes check four.cnf two.txt $'\xff' 1
 }
 
-# Packed files, by each packer that is there: a record is of what was unpacked, and one that is cut off at its end is refused by its name.
+# Packed files, by each packer that is there: a record is of what was unpacked, and one that is cut off at its end is rejected by its name.
 # None of the packers is needed but zstd, which is named where it is missing.
 case_packed() {
   mkdir lean
@@ -334,12 +334,12 @@ case_packed() {
     # a packed proof of another part, and one that is cut off
     rm "$end"/1.*
     cp "$end/2.lrat.$end" "$end/1.lrat.$end"
-    says 1 "1: $end/1.lrat.$end is refused: proof: line 1: clause of a hint is not unit; it is a proof of 2" \
+    says 1 "1: $end/1.lrat.$end is rejected: proof: line 1: clause of a hint is not unit; it is a proof of 2" \
       cubes check --whose four.cnf two.txt "$end" 1
     "$tool" -qc four/1.lrat | head -c -5 > "$end/1.lrat.$end"
     status=0
     cubes check four.cnf two.txt "$end" 1 2 > said 2>&1 || status=$?
-    if [[ $status != 1 || $(cat said) != "1: $end/1.lrat.$end is refused: cannot unpack $end/1.lrat.$end: "* || $(wc -l < said) != 1 || -e $end/1.receipt ]]; then
+    if [[ $status != 1 || $(cat said) != "1: $end/1.lrat.$end is rejected: cannot unpack $end/1.lrat.$end: "* || $(wc -l < said) != 1 || -e $end/1.receipt ]]; then
       printf '%s, a proof that is cut off: status %d, %s\n' "$end" "$status" "$(cat said)"
       wrong=1
     fi
@@ -394,7 +394,7 @@ case_liars() {
   lies 'an answer that is not there'
   # the parts of a formula that can be refuted, as those of one that can't
   for name in 1 2 closing; do
-    says 1 "$name: liar/$name.lrat is refused: $(cubes part three.cnf two.txt "$name" | lrat_check - "liar/$name.lrat" 2>&1 | head -n 1)" \
+    says 1 "$name: liar/$name.lrat is rejected: $(cubes part three.cnf two.txt "$name" | lrat_check - "liar/$name.lrat" 2>&1 | head -n 1)" \
       cubes check three.cnf two.txt liar "$name"
   done
   lies 'parts of another formula'
@@ -530,8 +530,8 @@ case_xargs() {
     echo "what was damaged is verified"
     wrong=1
   fi
-  for line in '20: no proof' '11: parts/11.drat is refused: .*; it is a proof of no part' \
-    '4: parts/4.drat is refused: .*; it is a proof of 30' '30: parts/30.drat is refused: .*; it is a proof of 4'; do
+  for line in '20: no proof' '11: parts/11.drat is rejected: .*; it is a proof of no part' \
+    '4: parts/4.drat is rejected: .*; it is a proof of 30' '30: parts/30.drat is rejected: .*; it is a proof of 4'; do
     if ! grep -qx "$line" said; then
       printf 'no line "%s" in:\n%s\n' "$line" "$(cat said)"
       wrong=1
@@ -544,7 +544,7 @@ case_xargs() {
   grep -vx '1 8 0' cubes.txt > fewer.txt
   mkdir fewer
   cp parts/closing.drat fewer
-  if cubes check formula.cnf fewer.txt fewer closing > said || ! grep -q '^closing: fewer/closing.drat is refused: ' said; then
+  if cubes check formula.cnf fewer.txt fewer closing > said || ! grep -q '^closing: fewer/closing.drat is rejected: ' said; then
     printf 'a cube that is left out: %s\n' "$(cat said)"
     wrong=1
   fi

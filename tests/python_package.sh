@@ -5,7 +5,9 @@ set -euo pipefail
 . "$(dirname "$0")/lib.sh"
 
 case_parts() {
-  PYTHONPATH=$top/lib python3 -B "$top/tests/python_package/parts.py" > "$work/said" 2>&1 || fault "$(cat "$work/said")"
+  export PYTHONPATH=$top/lib:$top/tests/python_package
+  python3 -B -m unittest parts splitting > "$work/said" 2>&1 || fault "$(cat "$work/said")"
+  grep -q '^Ran [1-9][0-9]* tests in ' "$work/said" || fault "no tests: $(cat "$work/said")"
 }
 
 case_answers() {

@@ -186,12 +186,12 @@ case_cubes() {
     wrong=1
   fi
 
-  # it goes on with the two, and with one whose proof was damaged after it was verified: that one is refused, and stays
+  # it goes on with the two, and with one whose proof was damaged after it was verified: that one is rejected, and stays
   head -c 200 parts/20.drat > short
   mv short parts/20.drat
   rm parts/20.receipt
   submits $'20: not verified\n1 of 65 parts are not verified' ./submit.sh || wrong=1
-  if ! cat slurm-*.out | grep -q '^20: parts/20.drat is refused: '; then
+  if ! cat slurm-*.out | grep -q '^20: parts/20.drat is rejected: '; then
     echo "part 20 is not refused"
     wrong=1
   fi

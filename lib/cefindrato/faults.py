@@ -2,7 +2,7 @@
 
 
 class Unusable(Exception):
-    """Why nothing could be asked: the script ends with status 2."""
+    """A usage error, or why nothing can be checked: the script ends with status 2."""
 
 
 class Unopened(Unusable):

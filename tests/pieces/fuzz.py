@@ -201,11 +201,11 @@ def try_case(pieces, seed, counts):
     if not refused and is_satisfiable(case.formula):
         return "verified with the last piece first, and the formula is satisfiable"
     if refused and ("no part" in refused or (verified and not seed % 2)):
-        return f"verified in pieces, and with the last one first it is refused: {refused}"
+        return f"verified in pieces, and with the last one first it is rejected: {refused}"
     whole = subprocess.run([pieces.checker, "--drat", f"{pieces.folder}/a.cnf", f"{pieces.folder}/a.drat"], capture_output=True, text=True)
     met, plain = meets_definition(case.formula, case.steps)
     if not verified and met and (plain or (whole.stdout == REFUTED and not seed % 2)):
-        return f"the whole is right, and in pieces it is refused: {why}"
+        return f"the whole is right, and in pieces it is rejected: {why}"
     known = {tuple(sorted(set(it))) for it in case.formula + [clause for _, clause in case.steps]}
     for name in range(2, pieces.count + 1):
         path = turned(pieces, name, known, case.draw)

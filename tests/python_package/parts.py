@@ -296,6 +296,3 @@ class Kinds(unittest.TestCase):
         """What a script catches as one, it catches as the other; a fault of what was asked about is none of the call."""
         self.assertTrue(issubclass(Damaged, Unusable) and issubclass(Unopened, Unusable))
         self.assertFalse(issubclass(Fault, Unusable) or issubclass(Unusable, Fault))
-
-
-unittest.main()
