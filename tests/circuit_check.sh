@@ -28,27 +28,61 @@ case_outputs() {
   done
 }
 
-# Names are of `same` alone; a run with names that differ writes no line.
-case_names_differ() {
-  printf 'aig 3 2 0 1 1\n6\n\2\2i1 x\n' > x.aig
-  printf 'aag 3 2 0 1 1\n2\n4\n6\n6 4 2\ni1 y\n' > y.aig
-  said() {
-    local status=0
-    "$check" "${@:3}" > said 2> err || status=$?
-    if [[ "$status $(cat said err)" != "$1 $2" ]]; then
-      fault "${*:3}: status $status, $(cat said err), and not $1 $2"
-    fi
-  }
-  differ='names differ: input 1 is x, and in the second circuit y'
-  said 0 "s VERIFIED SAME"$'\n'"warning: $differ" same x.aig y.aig --proof proof
-  said 1 "$differ" same x.aig y.aig --proof proof --names
-  said 0 's VERIFIED SAME' same x.aig x.aig --proof proof --names
-  said 0 's VERIFIED SAME' same x.aig one.aig --proof proof --names
-  status=0
-  "$check" never x.aig --proof proof --names > said 2> err || status=$?
-  if [[ "$status $(head -n 1 err)" != '2 --names is of same' || -s said ]]; then
-    fault "never --names: status $status, $(cat said err)"
+# said STATUS TEXT WORD..: circuit_check ends so, and prints and says this
+said() {
+  local status=0
+  "$check" "${@:3}" > said 2> err || status=$?
+  if [[ "$status $(cat said err)" != "$1 $2" ]]; then
+    fault "${*:3}: status $status, $(cat said err), and not $1 $2"
   fi
+}
+
+# a and not b, with the names in both orders; and b and not a
+named() {
+  printf 'aig 3 2 0 1 1\n6\n\1\3i0 a\ni1 b\no0 y\n' > n1.aig
+  printf 'aig 3 2 0 1 1\n6\n\2\1i0 b\ni1 a\no0 y\n' > n2.aig
+  printf 'aig 3 2 0 1 1\n6\n\1\3i0 b\ni1 a\no0 y\n' > n3.aig
+  # the two gates are the same, if they read the same
+  printf '%s 0\n' '-4 5' '4 -5' 4 '' > named.proof
+  printf 's SATISFIABLE\nv 2 -3 0\n' > named.answer
+}
+
+# Inputs and outputs are paired by their names: designs with their ports in other orders are the same, and others are not.
+case_by_name() {
+  named
+  unpaired='names: input 1 of the second circuit has a name that none of the other circuit has'
+  sed 's/i1 a/i1 x/' n2.aig > n4.aig
+  sed '/i1/d' n2.aig > n5.aig
+  sed 's/i1 a/i1 b/' n2.aig > n6.aig
+  said 0 's VERIFIED SAME' same n1.aig n2.aig --proof named.proof
+  said 3 's NOT VERIFIED' same n1.aig n3.aig --proof /dev/null
+  said 0 $'s VERIFIED DIFFERENT\ni 10\no 1\no 0' same n1.aig n3.aig --answer named.answer
+  said 3 's NOT VERIFIED' same n1.aig n2.aig --answer named.answer
+  said 0 's VERIFIED SAME' same n1.aig n3.aig --proof named.proof --by-position
+  said 0 $'s VERIFIED DIFFERENT\ni 10\no 1\no 0' same n1.aig n2.aig --answer named.answer --by-position
+  said 1 "$unpaired" same n1.aig n4.aig --proof named.proof
+  said 1 'names: input 1 of the second circuit has no name' same n1.aig n5.aig --answer named.answer
+  said 1 'names: input 1 of the second circuit has the name of an earlier one' same n1.aig n6.aig --formula formula
+  said 0 's VERIFIED SAME'$'\n''warning: the circuits have no names: inputs and outputs are paired by their positions' \
+    same one.aig two.aig --proof proof
+  status=0
+  "$check" never n1.aig --proof proof --by-position > said 2> err || status=$?
+  if [[ "$status $(head -n 1 err)" != '2 --by-position is of same' || -s said ]]; then
+    fault "never --by-position: status $status, $(cat said err)"
+  fi
+}
+
+# Nothing is claimed of circuits without outputs.
+case_no_outputs() {
+  printf 'aig 0 0 0 0 0\n' > none.aig
+  for option in '--proof /dev/null' '--answer answer' '--formula formula'; do
+    echo 's SATISFIABLE' > answer
+    # shellcheck disable=SC2086 # several words
+    {
+      said 1 'the circuits have no outputs' never none.aig $option
+      said 1 'the circuits have no outputs' same none.aig none.aig $option --by-position
+    }
+  done
 }
 
 # A formula that is not whole has no name.
@@ -139,17 +173,24 @@ case_arbiter() {
   echo "arbiter: $(wc -l < all) cubes, and without each of them"
 }
 
-# Two inputs of a design in the other order: yosys names them, and no proof shows that it is the same.
+# Two designs that differ in the order of their ports alone: by yosys with symbols one is the same, and one is not.
 case_ports() {
-  only_with yosys
-  for ports in 'a, b' 'b, a'; do
-    echo "module m(input $ports, output y); assign y = a & ~b; endmodule" > ports.v
-    yosys -q -p "read_verilog ports.v; synth -flatten -top m; aigmap; opt_clean; write_aiger -symbols ${ports:0:1}.aig" > said 2>&1 || cat said
-  done
-  "$check" same a.aig b.aig --formula ports.cnf 2> err
-  if [[ $(cat err) != 'warning: names differ: input 0 is a, and in the second circuit b' ]]; then
-    fault "names by yosys: $(cat err)"
+  only_with yosys cadical
+  on_path drat_check circuit_check checked
+  ports() {
+    echo "module m(input [7:0] $2, $3, output [7:0] y); assign y = $4; endmodule" > "$1.v"
+    yosys -q -p "read_verilog $1.v; synth -flatten -top m; aigmap; opt_clean; write_aiger -symbols $1.aig" > said 2>&1 || cat said
+  }
+  ports before a b 'a - b'
+  ports after b a 'b - a'
+  ports other b a 'a + ~b + 1'
+  status=0
+  checked --same cadical before.aig after.aig > said 2> err || status=$?
+  if [[ $status != 10 || $(head -n 1 said) != 's VERIFIED DIFFERENT' ]]; then
+    fault "ports in another order: status $status, $(cat said err)"
   fi
+  expect 20 's VERIFIED SAME' -- checked --same cadical before.aig other.aig
+  expect 20 's VERIFIED SAME' -- checked --by-position --same cadical before.aig after.aig
 }
 
 case_names() {

@@ -20,6 +20,8 @@ import cases
 import formulas
 
 SOLVER = shutil.which("cadical")
+# What standard error says of two circuits without names.
+UNNAMED = "warning: the circuits have no names: inputs and outputs are paired by their positions\n"
 
 
 def combinational(rng, inputs, outputs):
@@ -152,7 +154,8 @@ class Runs:
             status, out, _ = self.run(*words, "--answer", self.put("claim.answer", said.encode()))
             self.expect((words, said), (status, out), verdict(circuits, inputs))
         status, out, err = self.run(*words, "--answer", self.put("claim.answer", b"s UNSATISFIABLE\n"))
-        self.expect(words, (status, out, err), (1, "", "answer: line 1: the answer is UNSATISFIABLE\n"))
+        said = UNNAMED if words[0] == "same" else ""
+        self.expect(words, (status, out, err), (1, "", f"{said}answer: line 1: the answer is UNSATISFIABLE\n"))
 
 
 def main():

@@ -52,12 +52,12 @@ fail_reads_of_claims() {
   read_everywhere 'minimal' 0 's VERIFIED MINIMAL' "$formula|$proof|models: error reading formula" "$minimal" cnf proof models
   read_everywhere 'never' 0 's VERIFIED NEVER' "circuit: error reading circuit|$proof" "$circuit" never never.aig --proof never
   read_everywhere 'same' 0 's VERIFIED SAME' "circuit: error reading circuit|second circuit: error reading circuit|$proof" \
-    "$circuit" same one.aig two.aig --proof same
+    "$circuit" same one.aig two.aig --by-position --proof same
   read_everywhere 'possible' 0 $'s VERIFIED POSSIBLE\ni 11\no 1' "circuit: error reading circuit|answer: error reading answer" \
     "$circuit" never one.aig --answer answer
   read_everywhere 'different' 0 $'s VERIFIED DIFFERENT\ni 11\no 1\no 0' \
     "circuit: error reading circuit|second circuit: error reading circuit|answer: error reading answer" \
-    "$circuit" same one.aig none.aig --answer answer
+    "$circuit" same one.aig none.aig --by-position --answer answer
   read_everywhere 'reached' 0 's VERIFIED REACHED' "circuit: error reading circuit|stimulus: error reading stimulus" \
     "$circuit" safe machine.aig --stimulus stimulus
 }
@@ -72,13 +72,13 @@ fail_writes_of_claims() {
   wants 'the line of a core' 1 '' "$full"
   failing 'FAIL_WRITE=1' "$circuit" never never.aig --proof never
   wants 'the line of a circuit' 1 '' "$full"
-  failing 'FAIL_WRITE=1' "$circuit" same one.aig two.aig --proof same
+  failing 'FAIL_WRITE=1' "$circuit" same one.aig two.aig --by-position --proof same
   wants 'the line of two circuits' 1 '' "$full"
   failing 'FAIL_WRITE=1' "$circuit" never one.aig --answer answer
   wants 'the lines of an answer' 1 '' "$full"
   failing 'FAIL_WRITE=1' "$circuit" safe machine.aig --stimulus stimulus
   wants 'the line of a stimulus' 1 '' "$full"
-  for call in "$follows cnf claims" "$circuit never never.aig" "$circuit same one.aig two.aig"; do
+  for call in "$follows cnf claims" "$circuit never never.aig" "$circuit same one.aig two.aig --by-position"; do
     # shellcheck disable=SC2086 # several words
     failing '' $call --formula whole
     wants 'a formula for the solver' 0 '' ''
@@ -106,7 +106,7 @@ close_streams_of_claims() {
     judged "$mask" minimal_check 's VERIFIED MINIMAL' ''
     closed "$mask" "$circuit" never never.aig --proof never
     judged "$mask" circuit_check 's VERIFIED NEVER' ''
-    closed "$mask" "$circuit" same one.aig two.aig --formula asked
+    closed "$mask" "$circuit" same one.aig two.aig --by-position --formula asked
     judged "$mask" 'circuit_check --formula' '' ''
     cmp asked whole || wrong=1
     rm -f asked

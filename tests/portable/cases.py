@@ -81,7 +81,7 @@ def main(data, folder, *names):
         case("never", [], "s VERIFIED NEVER", "No input makes an output", click="example"),
         case("never", [], "s VERIFIED NEVER", "No input makes an output", drop=[["none", "0\n"], ["false", FALSE_TEXT]]),
         case("same", [gate, file("gate2.aig", GATE), equal], "s VERIFIED SAME", shown),
-        case("same", [*named, equal], "s VERIFIED SAME", "names differ: input 1 is x, and in the second circuit y"),
+        case("same", [*named, equal], REFUSED, "names: input 0 of the first circuit has no name"),
         case("same", [gate, file("other.aig", OTHER_GATE), nothing], "s NOT VERIFIED", "shows nothing of the circuit"),
         case("same", [gate, false, equal], REFUSED, "the circuits have different numbers of inputs"),
         case("same", [gate, file("two.aig", TWO), equal], REFUSED, "the circuits have different numbers of outputs"),

@@ -23,7 +23,7 @@ const MEANINGS = {
   's VERIFIED UNSAT': 'No assignment satisfies the clauses of the formula’s text.',
   's VERIFIED SAT': 'Every assignment that agrees with the answer satisfies the formula, and there is one.',
   's VERIFIED NEVER': 'No input makes an output of the circuit true.',
-  's VERIFIED SAME': 'Both circuits have the same outputs for each input, in their order.',
+  's VERIFIED SAME': 'Both circuits have the same outputs for each input.',
   's NOT VERIFIED': 'This shows nothing of SUBJECT: the proof ends too early, or a clause has no literal of the answer.',
 }
 const PACKED = [

@@ -9,7 +9,10 @@ use Rattle.circuit_rules.proofs.Simulation.{never_is_shown}
 use Rattle.circuit_rules.proofs.Joined.{same_is_shown}
 use Rattle.circuit_rules.proofs.Invariants.{safe_is_shown}
 use Rattle.circuit_text.specs.declared.circuit.Circuit as read
-use Rattle.circuit_text.specs.Circuits.{circuit_of}
+use Rattle.circuit_text.specs.Circuits.{Circuit, circuit_of}
+use Rattle.circuit_names.specs.Pairs.{IsPaired, by_name, unlike, unnamed}
+use Rattle.circuit_names.specs.declared.pairing.Pairing.{Pairing}
+use Rattle.circuit_names.specs.declared.pairing.Pairing.TheVariants.{ByName, ByPosition}
 use Rattle.circuit_text.specs.Reading.{IsRead}
 use Rattle.circuit_text.specs.Written.{IsAiger}
 use Rattle.circuit_clauses.specs.declared.induction.Induction.{Induction}
@@ -37,21 +40,29 @@ never_text known said formula e h refuted =
       never = never_is_shown c.inputs (gates_in c) c.outputs.items h.has.ordered (refuted_as formula (never_clauses (gates_in c) c.outputs.items) h.has.is refuted);
     }
 
-pub same_text : (known known' : Option (List ℕ)) (said said' : List ℕ) (formula : List (List ℕ)) → known ≡ Some said → known' ≡ Some said' →
-    IsSameFormula known known' formula → IsRefuted formula → IsSameText said said'
-same_text known known' said said' formula e e' h refuted =
-    let c = h.circuit in let c' = h.circuit' in
+-- the circuit that was arranged has the inputs that it had
+pub paired_inputs : (pairing : Pairing) (text text' : List ℕ) (c c' d : Circuit) → IsPaired pairing text text' c c' d → d.inputs ≡ c'.inputs
+paired_inputs ByPosition text text' c c' d h = ap (λ (x : Circuit). x.inputs) h
+paired_inputs ByName text text' c c' d (unnamed none none' e) = ap (λ (x : Circuit). x.inputs) e
+paired_inputs ByName text text' c c' d (unlike other e) = ap (λ (x : Circuit). x.inputs) e
+paired_inputs ByName text text' c c' d (by_name inputs outputs are e) = ap (λ (x : Circuit). x.inputs) e
+
+pub same_text : (pairing : Pairing) (text text' : List ℕ) (formula : List (List ℕ)) → IsSameFormula pairing text text' formula → IsRefuted formula → IsSameText pairing text text'
+same_text pairing text text' formula h refuted =
+    let c = h.circuit in let d = h.second in let c' = h.is.circuit in
     record {
       circuit = circuit_of c;
       circuit' = circuit_of c';
-      says = said_by known said c e h.says;
-      says' = said_by known' said' c' e' h.says';
-      shape = h.shape;
-      shape' = h.shape';
-      inputs = h.has.inputs;
+      says = h.gates.says;
+      says' = h.is.gates.says;
+      shape = h.gates.shape;
+      shape' = h.is.gates.shape;
+      inputs = h.has.inputs ∙ paired_inputs pairing text text' (circuit_of c) (circuit_of c') (circuit_of d) h.is.pairs;
+      paired = circuit_of d;
+      pairs = h.is.pairs;
       same =
-          same_is_shown c.inputs h.has.d h.has.v (gates_in c) c.outputs.items (gates_in c') c'.outputs.items h.has.places
-          (refuted_as formula (same_clauses c.inputs h.has.d h.has.v (gates_in c) c.outputs.items (gates_in c') c'.outputs.items) h.has.is refuted);
+          same_is_shown c.inputs h.has.d h.has.v (gates_in c) c.outputs.items (gates_in d) d.outputs.items h.has.places
+          (refuted_as formula (same_clauses c.inputs h.has.d h.has.v (gates_in c) c.outputs.items (gates_in d) d.outputs.items) h.has.is refuted);
     }
 
 -- the formulas, as the law has them

@@ -1,5 +1,5 @@
 -- Faults that a run hands on, and what stands after the verdict on a proof.
-use Rattle.std.proofs.Common.{◌≡◌, inl, inr, ℕ, true, List, Option, None, Result, Ok, Err, refl, ap, sym, subst}
+use Rattle.std.proofs.Common.{◌≡◌, inl, inr, ℕ, true, List, Option, Some, None, Result, Ok, Err, refl, ap, sym, subst}
 use Rattle.std.specs.Prelude.{IfOk}
 use Rattle.refutation_rules.specs.Cubes.{IsRefuted}
 use Rattle.circuit_clauses.specs.Causes.{IsCause, fits_part, part_cause, unless}
@@ -9,21 +9,23 @@ use Rattle.circuit_clauses.specs.declared.fault.ClausesFault.TheVariants.{OutOfM
 use Rattle.circuit_clauses.specs.declared.induction.Induction.{Induction}
 use Rattle.circuit_clauses.specs.declared.induction.Part.{Part}
 use Rattle.circuit_clauses.specs.declared.induction.Part.TheVariants as parts
+use Rattle.circuit_names.specs.declared.pairing.Pairing.{Pairing}
 use Rattle.drat_check.specs.Runs.{IsProofRun}
 use Rattle.drat_check.specs.declared.fault.RunFault.{RunFault}
 use Rattle.verdicts.specs.declared.verdict.Verdict.{Verdict}
 use Rattle.verdicts.specs.declared.verdict.Verdict.TheVariants.{Verified, NotVerified}
 use Rattle.circuit_check.specs.Claims.{IsInductionText, IsNeverFormula, IsSameFormula, RefutesAll}
-use Rattle.circuit_check.specs.Reads.{FailsBoth, FailsGates, FailsNever, FailsRead, FailsSafe, FailsSame}
+use Rattle.circuit_check.specs.Reads.{FailsBoth, FailsGates, FailsNever, FailsPaired, FailsRead, FailsSafe, FailsSame}
 use Rattle.circuit_check.specs.Runs.{AreUnmade, FailsClaim, FailsInduction, HaveStopped, IsClaimRun, IsPartFault, IsSafeRun, IsShown, IsUnwritten, IsWritten, ShowsAll, proof_fault}
 use Rattle.circuit_check.specs.declared.fault.CircuitFault.{CircuitFault}
-use Rattle.circuit_check.specs.declared.fault.CircuitFault.TheVariants.{Unread, OtherUnread, Sequential, NoFormula, Answer, Proof, InitialProof, StepProof, BadProof, Formula, Write}
+use Rattle.circuit_check.specs.declared.fault.CircuitFault.TheVariants.{Unread, OtherUnread, Sequential, Unpaired, NoFormula, Answer, Proof, InitialProof, StepProof, BadProof, Formula, Write}
 
 pub both_fail : (known known' : Option (List ℕ)) (fault : CircuitFault) → FailsRead known known' fault → FailsBoth known known' fault
 both_fail known known' (Unread f) h = h
 both_fail known known' (OtherUnread f) h = h
 both_fail known known' Sequential h = absurd h
 both_fail known known' (NoFormula f) h = absurd h
+both_fail known known' (Unpaired f) h = absurd h
 both_fail known known' (Answer f) h = absurd h
 both_fail known known' (Proof f) h = absurd h
 both_fail known known' (InitialProof f) h = absurd h
@@ -32,11 +34,26 @@ both_fail known known' (BadProof f) h = absurd h
 both_fail known known' (Formula f) h = absurd h
 both_fail known known' (Write f) h = absurd h
 
+pub paired_fail : (pairing : Pairing) (text text' : List ℕ) (fault : CircuitFault) → FailsBoth (Some text) (Some text') fault → FailsPaired pairing text text' fault
+paired_fail pairing text text' (Unread f) h = h
+paired_fail pairing text text' (OtherUnread f) h = h
+paired_fail pairing text text' Sequential h = h
+paired_fail pairing text text' (Unpaired f) h = absurd h
+paired_fail pairing text text' (NoFormula f) h = absurd h
+paired_fail pairing text text' (Answer f) h = absurd h
+paired_fail pairing text text' (Proof f) h = absurd h
+paired_fail pairing text text' (InitialProof f) h = absurd h
+paired_fail pairing text text' (StepProof f) h = absurd h
+paired_fail pairing text text' (BadProof f) h = absurd h
+paired_fail pairing text text' (Formula f) h = absurd h
+paired_fail pairing text text' (Write f) h = absurd h
+
 pub never_fails : (known : Option (List ℕ)) (fault : CircuitFault) → FailsGates known fault → FailsNever known fault
 never_fails known (Unread f) h = h
 never_fails known (OtherUnread f) h = absurd h
 never_fails known Sequential h = h
 never_fails known (NoFormula f) h = absurd h
+never_fails known (Unpaired f) h = absurd h
 never_fails known (Answer f) h = absurd h
 never_fails known (Proof f) h = absurd h
 never_fails known (InitialProof f) h = absurd h
@@ -45,24 +62,26 @@ never_fails known (BadProof f) h = absurd h
 never_fails known (Formula f) h = absurd h
 never_fails known (Write f) h = absurd h
 
-pub same_fails : (known known' : Option (List ℕ)) (fault : CircuitFault) → FailsBoth known known' fault → FailsSame known known' fault
-same_fails known known' (Unread f) h = h
-same_fails known known' (OtherUnread f) h = h
-same_fails known known' Sequential h = h
-same_fails known known' (NoFormula f) h = absurd h
-same_fails known known' (Answer f) h = absurd h
-same_fails known known' (Proof f) h = absurd h
-same_fails known known' (InitialProof f) h = absurd h
-same_fails known known' (StepProof f) h = absurd h
-same_fails known known' (BadProof f) h = absurd h
-same_fails known known' (Formula f) h = absurd h
-same_fails known known' (Write f) h = absurd h
+pub same_fails : (pairing : Pairing) (text text' : List ℕ) (fault : CircuitFault) → FailsPaired pairing text text' fault → FailsSame pairing text text' fault
+same_fails pairing text text' (Unread f) h = h
+same_fails pairing text text' (OtherUnread f) h = h
+same_fails pairing text text' Sequential h = h
+same_fails pairing text text' (NoFormula f) h = absurd h
+same_fails pairing text text' (Unpaired f) h = h
+same_fails pairing text text' (Answer f) h = absurd h
+same_fails pairing text text' (Proof f) h = absurd h
+same_fails pairing text text' (InitialProof f) h = absurd h
+same_fails pairing text text' (StepProof f) h = absurd h
+same_fails pairing text text' (BadProof f) h = absurd h
+same_fails pairing text text' (Formula f) h = absurd h
+same_fails pairing text text' (Write f) h = absurd h
 
 pub safe_fails : (known known' : Option (List ℕ)) (fault : CircuitFault) → FailsRead known known' fault → FailsSafe known known' fault
 safe_fails known known' (Unread f) h = h
 safe_fails known known' (OtherUnread f) h = h
 safe_fails known known' Sequential h = absurd h
 safe_fails known known' (NoFormula f) h = absurd h
+safe_fails known known' (Unpaired f) h = absurd h
 safe_fails known known' (Answer f) h = absurd h
 safe_fails known known' (Proof f) h = absurd h
 safe_fails known known' (InitialProof f) h = absurd h
@@ -78,6 +97,7 @@ never_run known (Unread f) h = (h, λ u. u)
 never_run known (OtherUnread f) h = absurd h
 never_run known Sequential h = (h, λ u. u)
 never_run known (NoFormula f) h = (h, λ u. u)
+never_run known (Unpaired f) h = absurd h
 never_run known (Answer f) h = absurd h
 never_run known (Proof f) h = absurd h
 never_run known (InitialProof f) h = absurd h
@@ -86,25 +106,27 @@ never_run known (BadProof f) h = absurd h
 never_run known (Formula f) h = absurd h
 never_run known (Write f) h = absurd h
 
-pub same_run : (known known' : Option (List ℕ)) (fault : CircuitFault) → FailsSame known known' fault →
-    FailsClaim (IsSameFormula known known') (FailsSame known known') fault × (IsUnwritten (Err fault) → ⊥)
-same_run known known' (Unread f) h = (h, λ u. u)
-same_run known known' (OtherUnread f) h = (h, λ u. u)
-same_run known known' Sequential h = (h, λ u. u)
-same_run known known' (NoFormula f) h = (h, λ u. u)
-same_run known known' (Answer f) h = absurd h
-same_run known known' (Proof f) h = absurd h
-same_run known known' (InitialProof f) h = absurd h
-same_run known known' (StepProof f) h = absurd h
-same_run known known' (BadProof f) h = absurd h
-same_run known known' (Formula f) h = absurd h
-same_run known known' (Write f) h = absurd h
+pub same_run : (pairing : Pairing) (text text' : List ℕ) (fault : CircuitFault) → FailsSame pairing text text' fault →
+    FailsClaim (IsSameFormula pairing text text') (FailsSame pairing text text') fault × (IsUnwritten (Err fault) → ⊥)
+same_run pairing text text' (Unread f) h = (h, λ u. u)
+same_run pairing text text' (OtherUnread f) h = (h, λ u. u)
+same_run pairing text text' Sequential h = (h, λ u. u)
+same_run pairing text text' (NoFormula f) h = (h, λ u. u)
+same_run pairing text text' (Unpaired f) h = (h, λ u. u)
+same_run pairing text text' (Answer f) h = absurd h
+same_run pairing text text' (Proof f) h = absurd h
+same_run pairing text text' (InitialProof f) h = absurd h
+same_run pairing text text' (StepProof f) h = absurd h
+same_run pairing text text' (BadProof f) h = absurd h
+same_run pairing text text' (Formula f) h = absurd h
+same_run pairing text text' (Write f) h = absurd h
 
 pub safe_run : (known known' : Option (List ℕ)) (fault : CircuitFault) → FailsSafe known known' fault → FailsInduction known known' fault × (IsUnwritten (Err fault) → ⊥)
 safe_run known known' (Unread f) h = (h, λ u. u)
 safe_run known known' (OtherUnread f) h = (h, λ u. u)
 safe_run known known' Sequential h = absurd h
 safe_run known known' (NoFormula f) h = (h, λ u. u)
+safe_run known known' (Unpaired f) h = absurd h
 safe_run known known' (Answer f) h = absurd h
 safe_run known known' (Proof f) h = absurd h
 safe_run known known' (InitialProof f) h = absurd h
@@ -166,6 +188,7 @@ claim_written IsFormula Fails formula v (Err (Unread f)) is shown same written =
 claim_written IsFormula Fails formula v (Err (OtherUnread f)) is shown same written = absurd written
 claim_written IsFormula Fails formula v (Err Sequential) is shown same written = absurd written
 claim_written IsFormula Fails formula v (Err (NoFormula f)) is shown same written = absurd written
+claim_written IsFormula Fails formula v (Err (Unpaired f)) is shown same written = absurd written
 claim_written IsFormula Fails formula v (Err (Answer f)) is shown same written = absurd written
 claim_written IsFormula Fails formula v (Err (Proof f)) is shown same written = absurd written
 claim_written IsFormula Fails formula v (Err (InitialProof f)) is shown same written = absurd written
@@ -181,6 +204,7 @@ safe_written known known' i v (Err (Unread f)) is shown same written = absurd wr
 safe_written known known' i v (Err (OtherUnread f)) is shown same written = absurd written
 safe_written known known' i v (Err Sequential) is shown same written = absurd written
 safe_written known known' i v (Err (NoFormula f)) is shown same written = absurd written
+safe_written known known' i v (Err (Unpaired f)) is shown same written = absurd written
 safe_written known known' i v (Err (Answer f)) is shown same written = absurd written
 safe_written known known' i v (Err (Proof f)) is shown same written = absurd written
 safe_written known known' i v (Err (InitialProof f)) is shown same written = absurd written

@@ -7,7 +7,8 @@ ghost use Rattle.circuit_check.specs.Runs.{IsSilent, IsUnwritten};
 ghost use Rattle.verdicts.specs.declared.verdict.Verdict.TheVariants.{Verified};
 
 use crate::fault::CircuitFault;
-use crate::formulas::{read_both, read_gates};
+use crate::formulas::{read_gates, read_paired};
+use crate::pair::PairTexts;
 use answer_text::read_answer;
 use circuit_answers::{judge_different, judge_possible};
 use std::alloc::Global;
@@ -69,29 +70,27 @@ pub fn run_possible<A: Read + Drop, P: Read + Drop, W: Write>(
 ///
 /// # Errors
 ///
-/// As `run_possible`; also `OtherUnread` if the second circuit can't be read, and `NoFormula` if
-/// they have not as many inputs or outputs.
-pub fn run_different<A: Read + Drop, B: Read + Drop, P: Read + Drop, W: Write>(
+/// As `run_possible`; also `OtherUnread` if the second circuit can't be read, `Unpaired` if the
+/// names can't be paired, and `NoFormula` if they have not as many inputs or outputs.
+pub fn run_different<P: Read + Drop, W: Write>(
     alloc: Global,
-    text: A,
-    other: B,
+    pair: PairTexts<'_>,
     answer: P,
     out: &mut W,
 ) -> Result<Verdict, CircuitFault>
-    ensures run { IsDifferentRun (A.remaining text) (B.remaining other) (P.remaining answer)
-        result }
-    ensures line { IfOk result (λ verdict. OfDifferent (A.remaining text) (B.remaining other)
-        (P.remaining answer) (λ c d lits. WritesDifferent lits c d verdict
+    ensures run { IsDifferentRun pair.entry.pairing pair.entry.text.now pair.entry.other.now
+        (P.remaining answer) result }
+    ensures line { IfOk result (λ verdict. OfDifferent pair.entry.pairing pair.entry.text.now
+        pair.entry.other.now (P.remaining answer) (λ c d lits. WritesDifferent lits c d verdict
         (W.contents out.old) (W.contents out.new))) }
     ensures silent { IsSilent result → out.new ≡ out.old }
-    ensures unwritten { IsUnwritten result → OfDifferent (A.remaining text) (B.remaining other)
-        (P.remaining answer) (λ c d lits. BeginsDifferent lits c d
+    ensures unwritten { IsUnwritten result → OfDifferent pair.entry.pairing pair.entry.text.now
+        pair.entry.other.now (P.remaining answer) (λ c d lits. BeginsDifferent lits c d
         (W.contents out.old) (W.contents out.new)) }
-    ensures different { (said other_said : List ℕ) → A.remaining text ≡ Some said
-        → B.remaining other ≡ Some other_said → result ≡ Ok Verified
-        → AreDifferentText said other_said }
+    ensures different { result ≡ Ok Verified
+        → AreDifferentText pair.entry.pairing pair.entry.text.now pair.entry.other.now }
 {
-    let (first, second) = match read_both(alloc, text, other) {
+    let (first, second) = match read_paired(alloc, pair) {
         Ok(circuits) => circuits,
         Err(fault) => return Err(fault),
     };

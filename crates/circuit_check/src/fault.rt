@@ -1,6 +1,7 @@
 //! Why a run comes to no verdict.
 use answer_text::AnswerFault;
 use circuit_clauses::ClausesFault;
+use circuit_names::PairFault;
 use circuit_text::AigerFault;
 use drat_check::RunFault;
 use std::io;
@@ -19,6 +20,9 @@ pub enum CircuitFault {
     /// A circuit has latches, bad state properties or invariant constraints.
     #[error("a circuit with latches, bad state properties or invariant constraints")]
     Sequential,
+    /// The inputs and outputs of two circuits can't be paired by their names.
+    #[error("names: {0}")]
+    Unpaired(PairFault),
     /// There is no formula of the circuits.
     #[error("{0}")]
     NoFormula(ClausesFault),

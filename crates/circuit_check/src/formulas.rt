@@ -1,12 +1,14 @@
 //! The formulas of circuits' texts.
-ghost use Rattle.std.specs.Prelude.{IfErr, IfOk};
-ghost use Rattle.circuit_check.specs.Claims.{IsInductionText, IsNeverFormula, IsSameFormula};
-ghost use Rattle.circuit_check.specs.Reads.{FailsBoth, FailsGates, FailsNever, FailsRead, FailsSafe, FailsSame, IsGates};
+ghost use Rattle.std.specs.Prelude.{IfErr, IfOk, Some};
+ghost use Rattle.circuit_check.specs.Claims.{IsGates, IsInductionText, IsNeverFormula, IsSameFormula, IsSecond};
+ghost use Rattle.circuit_check.specs.Reads.{FailsBoth, FailsGates, FailsNever, FailsPaired, FailsRead, FailsSafe, FailsSame};
 ghost use Rattle.circuit_text.specs.Reading.{IsRead};
 
 use crate::fault::CircuitFault;
+use crate::pair::PairTexts;
 use crate::shape::is_combinational;
 use circuit_clauses::{Induction, never_formula, same_formula};
+use circuit_names::paired;
 use circuit_text::{Circuit, read_circuit};
 use sat_formula::CnfFormula;
 use std::alloc::Global;
@@ -28,15 +30,13 @@ pub(crate) fn read_never<A: Read + Drop>(alloc: Global, text: A) -> Result<CnfFo
 }
 
 /// Reads two circuits, and returns the formula that is refuted if they are the same.
-pub(crate) fn read_same<A: Read + Drop, B: Read + Drop>(
-    alloc: Global,
-    text: A,
-    other: B,
-) -> Result<CnfFormula, CircuitFault>
-    ensures formula { IfOk result (IsSameFormula (A.remaining text) (B.remaining other)) }
-    ensures fault { IfErr result (FailsSame (A.remaining text) (B.remaining other)) }
+pub(crate) fn read_same(alloc: Global, pair: PairTexts<'_>) -> Result<CnfFormula, CircuitFault>
+    ensures formula { IfOk result (IsSameFormula pair.entry.pairing pair.entry.text.now
+        pair.entry.other.now) }
+    ensures fault { IfErr result (FailsSame pair.entry.pairing pair.entry.text.now
+        pair.entry.other.now) }
 {
-    let (first, second) = match read_both(alloc, text, other) {
+    let (first, second) = match read_paired(alloc, pair) {
         Ok(circuits) => circuits,
         Err(fault) => return Err(fault),
     };
@@ -61,8 +61,29 @@ pub(crate) fn read_gates<A: Read + Drop>(alloc: Global, text: A) -> Result<Circu
     Ok(circuit)
 }
 
+/// Reads two such circuits, and returns the second one in the order of the first one.
+pub(crate) fn read_paired(
+    alloc: Global,
+    pair: PairTexts<'_>,
+) -> Result<(Circuit, Circuit), CircuitFault>
+    ensures first { IfOk result (λ read. IsGates (Some pair.entry.text.now) read.0) }
+    ensures second { IfOk result (λ read. IsSecond pair.entry.pairing pair.entry.text.now
+        pair.entry.other.now read.0 read.1) }
+    ensures fault { IfErr result (FailsPaired pair.entry.pairing pair.entry.text.now
+        pair.entry.other.now) }
+{
+    let (first, second) = match read_both(alloc, pair.text, pair.other) {
+        Ok(circuits) => circuits,
+        Err(fault) => return Err(fault),
+    };
+    match paired(alloc, pair.pairing, &first, pair.text, second, pair.other) {
+        Ok(second) => Ok((first, second)),
+        Err(fault) => Err(CircuitFault::Unpaired(fault)),
+    }
+}
+
 /// Reads two such circuits, the first one first.
-pub(crate) fn read_both<A: Read + Drop, B: Read + Drop>(
+fn read_both<A: Read + Drop, B: Read + Drop>(
     alloc: Global,
     text: A,
     other: B,

@@ -15,6 +15,7 @@ ghost use Rattle.whole_writes.specs.Beginnings.{AppendsBeginning};
 use crate::fault::CircuitFault;
 use crate::formulas::{read_never, read_same};
 use crate::line::Claim;
+use crate::pair::PairTexts;
 use drat_check::{Outputs, ProofFormat, RunFault, Verdict, run_proof};
 use log::Log;
 use sat_formula::CnfFormula;
@@ -64,36 +65,36 @@ pub fn run_never<R: Log, A: Read + Drop, P: Read + Drop, W: Write>(
 }
 
 /// Reads two circuits, checks a proof that they have the same outputs for the same input, and
-/// writes the verdict's line. Inputs and outputs are compared in their order.
+/// writes the verdict's line. Inputs and outputs are compared with those with which they are
+/// paired.
 ///
 /// Returns whether the proof shows it.
 ///
 /// # Errors
 ///
-/// As `run_never`; also `OtherUnread` if the second circuit can't be read, and `NoFormula` if they
-/// have not as many inputs or outputs.
-pub fn run_same<R: Log, A: Read + Drop, B: Read + Drop, P: Read + Drop, W: Write>(
+/// As `run_never`; also `OtherUnread` if the second circuit can't be read, `Unpaired` if the names
+/// can't be paired, and `NoFormula` if the circuits have not as many inputs or outputs.
+pub fn run_same<R: Log, P: Read + Drop, W: Write>(
     rt: &R,
     alloc: Global,
-    text: A,
-    other: B,
+    pair: PairTexts<'_>,
     proof: P,
     format: ProofFormat,
     out: &mut W,
 ) -> Result<Verdict, CircuitFault>
-    ensures run { IsClaimRun (IsSameFormula (A.remaining text) (B.remaining other))
-        (FailsSame (A.remaining text) (B.remaining other)) result }
+    ensures run { IsClaimRun (IsSameFormula pair.entry.pairing pair.entry.text.now
+        pair.entry.other.now) (FailsSame pair.entry.pairing pair.entry.text.now
+        pair.entry.other.now) result }
     ensures line { IfOk result (λ verdict.
         Appends (W.contents out.old) (W.contents out.new) (claim_line claims.Same verdict)) }
     ensures silent { IsSilent result → out.new ≡ out.old }
     ensures unwritten { IsUnwritten result
-        → BeginsClaim (IsSameFormula (A.remaining text) (B.remaining other))
+        → BeginsClaim (IsSameFormula pair.entry.pairing pair.entry.text.now pair.entry.other.now)
         claims.Same (W.contents out.old) (W.contents out.new) }
-    ensures same { (said other_said : List ℕ) → A.remaining text ≡ Some said
-        → B.remaining other ≡ Some other_said → result ≡ Ok Verified
-        → IsSameText said other_said }
+    ensures same { result ≡ Ok Verified
+        → IsSameText pair.entry.pairing pair.entry.text.now pair.entry.other.now }
 {
-    let formula = match read_same(alloc, text, other) {
+    let formula = match read_same(alloc, pair) {
         Ok(formula) => formula,
         Err(fault) => return Err(fault),
     };
@@ -131,18 +132,18 @@ pub fn write_never<A: Read + Drop, W: Write>(
 /// # Errors
 ///
 /// As `write_never`, and those of `run_same` for the second circuit.
-pub fn write_same<A: Read + Drop, B: Read + Drop, W: Write>(
+pub fn write_same<W: Write>(
     alloc: Global,
-    text: A,
-    other: B,
+    pair: PairTexts<'_>,
     out: &mut W,
 ) -> Result<(), CircuitFault>
-    ensures whole { OnOk result (HasWritten (IsSameFormula (A.remaining text) (B.remaining other))
-        (W.contents out.old) (W.contents out.new)) }
-    ensures fault { IfErr result (IsUnmade (IsSameFormula (A.remaining text) (B.remaining other))
-        (FailsSame (A.remaining text) (B.remaining other)) W.contents out.old out.new) }
+    ensures whole { OnOk result (HasWritten (IsSameFormula pair.entry.pairing pair.entry.text.now
+        pair.entry.other.now) (W.contents out.old) (W.contents out.new)) }
+    ensures fault { IfErr result (IsUnmade (IsSameFormula pair.entry.pairing pair.entry.text.now
+        pair.entry.other.now) (FailsSame pair.entry.pairing pair.entry.text.now
+        pair.entry.other.now) W.contents out.old out.new) }
 {
-    match read_same(alloc, text, other) {
+    match read_same(alloc, pair) {
         Ok(formula) => write_text(alloc, &formula, out),
         Err(fault) => Err(fault),
     }

@@ -23,8 +23,9 @@ use Rattle.circuit_check.specs.declared.fault.ReachFault.{ReachFault}
 use Rattle.circuit_check.specs.declared.fault.ReachFault.TheVariants as reaches
 use Rattle.circuit_check.specs.declared.line.Claim.{Claim}
 use Rattle.circuit_check.specs.declared.line.Claim.TheVariants.{Safe}
+use Rattle.circuit_names.specs.declared.pairing.Pairing.{Pairing}
 use Rattle.circuit_clauses.specs.declared.induction.Induction.{Induction}
-use Rattle.circuit_check_main.proofs.Naming.{read_as}
+use Rattle.circuit_check_main.proofs.Naming.{read_is}
 use Rattle.circuit_check_main.specs.Meaning.{Answers, DifferentMeans, NeverMeans, PossibleMeans, Proves, ReachMeans, Runs, SafeMeans, SameMeans, Shown, answered, proved, ran, shown_status, shown_text, wrote}
 use Rattle.verdicts.proofs.Ending.{ends_weaker}
 use Rattle.verdicts.specs.Statuses.{Ends, ended_of}
@@ -40,6 +41,7 @@ told : (fault : CircuitFault) → IsSilent (Err fault) ⊎ IsUnwritten (Err faul
 told (faults.Unread f) = inl tt
 told (faults.OtherUnread f) = inl tt
 told faults.Sequential = inl tt
+told (faults.Unpaired f) = inl tt
 told (faults.NoFormula f) = inl tt
 told (faults.Answer f) = inl tt
 told (faults.Proof f) = inl tt
@@ -62,13 +64,13 @@ pub never_means : (known said : Option (List ℕ)) → known ≡ said → (formu
 never_means known said same formula Verified is shown = λ text e. never_text known text formula (same ∙ e) is shown
 never_means known said same formula NotVerified is shown = tt
 
-pub same_means : (slice slice' items items' : List ℕ) (said said' : Option (List ℕ)) → slice ≡ items → slice' ≡ items'
+pub same_means : (pairing : Pairing) (slice slice' items items' : List ℕ) (said said' : Option (List ℕ)) → slice ≡ items → slice' ≡ items'
     → IfSome said (λ bytes. items ≡ bytes) → IfSome said' (λ bytes. items' ≡ bytes) → (formula : List (List ℕ)) (verdict : Verdict)
-    → IsSameFormula (Some slice) (Some slice') formula → IsShown formula verdict → SameMeans said said' verdict
-same_means slice slice' items items' said said' e e' known known' formula Verified is shown =
-    λ text other first second. same_text (Some slice) (Some slice') text other formula (read_as said text items slice first known e)
-    (read_as said' other items' slice' second known' e') is shown
-same_means slice slice' items items' said said' e e' known known' formula NotVerified is shown = tt
+    → IsSameFormula pairing slice slice' formula → IsShown formula verdict → SameMeans pairing said said' verdict
+same_means pairing slice slice' items items' said said' e e' known known' formula Verified is shown =
+    λ text other first second. rw (read_is said text items slice first known e) at
+    (rw (read_is said' other items' slice' second known' e') at (same_text pairing slice slice' formula is shown))
+same_means pairing slice slice' items items' said said' e e' known known' formula NotVerified is shown = tt
 
 safe_means : (known known' said : Option (List ℕ)) → known ≡ said → (i : Induction) (verdict : Verdict)
     → IsInductionText known known' i → ShowsAll i verdict → SafeMeans said verdict
@@ -104,32 +106,31 @@ possible_means known answer said said' same same' verdict text h = record {
 
 -- ---- two circuits, and an answer
 
-of_different : (known known' answer : Option (List ℕ)) (P Q : read.Circuit → read.Circuit → (ℕ → Bool) → Type 0) (h : OfDifferent known known' answer P)
-    → Q h.circuit h.holds.circuit (listed h.holds.holds.lits) → OfDifferent known known' answer Q
-of_different known known' answer P Q h q = record {
+of_different : (pairing : Pairing) (text text' : List ℕ) (answer : Option (List ℕ)) (P Q : read.Circuit → read.Circuit → (ℕ → Bool) → Type 0)
+    (h : OfDifferent pairing text text' answer P) → Q h.circuit h.second (listed h.holds.lits) → OfDifferent pairing text text' answer Q
+of_different pairing text text' answer P Q h q = record {
   circuit = h.circuit;
+  second = h.second;
   gates = h.gates;
-  holds = record {
-    circuit = h.holds.circuit;
-    gates = h.holds.gates;
-    holds = record { lits = h.holds.holds.lits; lists = h.holds.holds.lists; apart = h.holds.holds.apart; holds = q };
-  };
+  is = h.is;
+  holds = record { lits = h.holds.lits; lists = h.holds.lists; apart = h.holds.apart; holds = q };
 }
 
 -- where their texts and the answer's are known
 abbrev Reads : Option (List ℕ) → List ℕ → List ℕ → Type 0
 Reads said items slice = (slice ≡ items) × IfSome said (λ bytes. items ≡ bytes)
 
-different_means : (slice slice' items items' : List ℕ) (answer said said' said'' : Option (List ℕ)) → Reads said items slice → Reads said' items' slice'
-    → answer ≡ said'' → (verdict : Verdict) (text : List ℕ)
-    → OfDifferent (Some slice) (Some slice') answer (λ c d lits. IsDifferentJudged lits c d verdict text) → DifferentMeans said said' said'' verdict text
-different_means slice slice' items items' answer said said' said'' one two same verdict text h = record {
-  judged = λ bytes other_bytes e e'. rw (read_as said bytes items slice e one.1 one.0) at
-      (rw (read_as said' other_bytes items' slice' e' two.1 two.0) at (rw same at h));
-  different = λ bytes other_bytes e e' is. different_text (Some slice) (Some slice') answer bytes other_bytes verdict None None
-      (read_as said bytes items slice e one.1 one.0) (read_as said' other_bytes items' slice' e' two.1 two.0) is
-      (of_different (Some slice) (Some slice') answer (λ c d lits. IsDifferentJudged lits c d verdict text)
-      (λ c d lits. WritesDifferent lits c d verdict None None) h (record { text = text; judged = h.holds.holds.holds; appends = tt }));
+different_means : (pairing : Pairing) (slice slice' items items' : List ℕ) (answer said said' said'' : Option (List ℕ)) → Reads said items slice
+    → Reads said' items' slice' → answer ≡ said'' → (verdict : Verdict) (text : List ℕ)
+    → OfDifferent pairing slice slice' answer (λ c d lits. IsDifferentJudged lits c d verdict text) → DifferentMeans pairing said said' said'' verdict text
+different_means pairing slice slice' items items' answer said said' said'' one two same verdict text h = record {
+  judged = λ bytes other_bytes e e'. rw (read_is said bytes items slice e one.1 one.0) at
+      (rw (read_is said' other_bytes items' slice' e' two.1 two.0) at (rw same at h));
+  different = λ bytes other_bytes e e' is. rw (read_is said bytes items slice e one.1 one.0) at
+      (rw (read_is said' other_bytes items' slice' e' two.1 two.0) at
+      (different_text pairing slice slice' answer verdict None None is
+      (of_different pairing slice slice' answer (λ c d lits. IsDifferentJudged lits c d verdict text)
+      (λ c d lits. WritesDifferent lits c d verdict None None) h (record { text = text; judged = h.holds.holds; appends = tt }))));
 }
 
 -- ---- how a call ends
@@ -201,14 +202,14 @@ module _ (old new : Option (List ℕ)) where
           )
     ]
 
-  module _ (slice slice' items items' : List ℕ) (answer said said' said'' : Option (List ℕ)) (e : slice ≡ items) (e' : slice' ≡ items')
+  module _ (pairing : Pairing) (slice slice' items items' : List ℕ) (answer said said' said'' : Option (List ℕ)) (e : slice ≡ items) (e' : slice' ≡ items')
       (first : IfSome said (λ bytes. items ≡ bytes)) (second : IfSome said' (λ bytes. items' ≡ bytes)) (same : answer ≡ said'') where
     pub ends_different : (r : Result Verdict CircuitFault)
-        → IfOk r (λ verdict. OfDifferent (Some slice) (Some slice') answer (λ c d lits. WritesDifferent lits c d verdict old new))
-        → (IsSilent r → new ≡ old) → (IsUnwritten r → OfDifferent (Some slice) (Some slice') answer (λ c d lits. BeginsDifferent lits c d old new))
-        → Ends shown_text shown_status (Answers (DifferentMeans said said' said'')) (Unit {0}) old new (ended_of shows_unsat r)
+        → IfOk r (λ verdict. OfDifferent pairing slice slice' answer (λ c d lits. WritesDifferent lits c d verdict old new))
+        → (IsSilent r → new ≡ old) → (IsUnwritten r → OfDifferent pairing slice slice' answer (λ c d lits. BeginsDifferent lits c d old new))
+        → Ends shown_text shown_status (Answers (DifferentMeans pairing said said' said'')) (Unit {0}) old new (ended_of shows_unsat r)
     ends_different (Ok verdict) line silent unwritten =
-        let w = line.holds.holds.holds in (
+        let w = line.holds.holds in (
           answered verdict w.text,
           refl,
           w.appends,
@@ -216,8 +217,8 @@ module _ (old new : Option (List ℕ)) where
             verdict,
             w.text,
             refl,
-            different_means slice slice' items items' answer said said' said'' (e, first) (e', second) same verdict w.text
-                (of_different (Some slice) (Some slice') answer (λ c d lits. WritesDifferent lits c d verdict old new)
+            different_means pairing slice slice' items items' answer said said' said'' (e, first) (e', second) same verdict w.text
+                (of_different pairing slice slice' answer (λ c d lits. WritesDifferent lits c d verdict old new)
                 (λ c d lits. IsDifferentJudged lits c d verdict w.text) line w.judged),
           ),
         )
@@ -225,7 +226,7 @@ module _ (old new : Option (List ℕ)) where
       | inl quiet ↦ inl (silent quiet, tt)
       | inr cut ↦
           let b = unwritten cut in
-          let w = b.holds.holds.holds in
+          let w = b.holds.holds in
           inr (
             refl,
             (
@@ -235,8 +236,8 @@ module _ (old new : Option (List ℕ)) where
                 w.verdict,
                 w.text,
                 refl,
-                different_means slice slice' items items' answer said said' said'' (e, first) (e', second) same w.verdict w.text
-                    (of_different (Some slice) (Some slice') answer (λ c d lits. BeginsDifferent lits c d old new)
+                different_means pairing slice slice' items items' answer said said' said'' (e, first) (e', second) same w.verdict w.text
+                    (of_different pairing slice slice' answer (λ c d lits. BeginsDifferent lits c d old new)
                     (λ c d lits. IsDifferentJudged lits c d w.verdict w.text) b w.judged),
               ),
             ),

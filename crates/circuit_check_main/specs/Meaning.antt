@@ -16,7 +16,8 @@ use Rattle.circuit_check.specs.Claims.{AreDifferentText, IsNeverFormula, IsNever
 use Rattle.circuit_check.specs.Verdicts.{claim_line}
 use Rattle.circuit_check.specs.declared.line.Claim.{Claim}
 use Rattle.circuit_check.specs.declared.line.Claim.TheVariants.{Never, Same, Safe}
-use Rattle.circuit_check_main.specs.Asked.{HasFiles, HasFormulas, HasProofs}
+use Rattle.circuit_check_main.specs.Asked.{HasFiles, HasFormulas, HasProofs, pairing_of}
+use Rattle.circuit_names.specs.declared.pairing.Pairing.{Pairing}
 use Rattle.circuit_check_main.specs.Shown.{NamesFormula, NamesFormulas, StopsFormulas}
 use Rattle.command.specs.Calls.{Choice, choices_of, is_given, operands_of}
 use Rattle.command.specs.declared.call.Call.{Call}
@@ -53,10 +54,10 @@ abbrev pub NeverMeans : Option (List ℕ) → Verdict → Type 0
 NeverMeans circuit Verified = (text : List ℕ) → circuit ≡ Some text → IsNeverText text
 NeverMeans circuit NotVerified = Unit {0}
 
-abbrev pub SameMeans : Option (List ℕ) → Option (List ℕ) → Verdict → Type 0
-SameMeans circuit other Verified = (text other_text : List ℕ) → circuit ≡ Some text → other ≡ Some other_text
-    → IsSameText text other_text
-SameMeans circuit other NotVerified = Unit {0}
+abbrev pub SameMeans : Pairing → Option (List ℕ) → Option (List ℕ) → Verdict → Type 0
+SameMeans pairing circuit other Verified = (text other_text : List ℕ) → circuit ≡ Some text → other ≡ Some other_text
+    → IsSameText pairing text other_text
+SameMeans pairing circuit other NotVerified = Unit {0}
 
 abbrev pub SafeMeans : Option (List ℕ) → Verdict → Type 0
 SafeMeans machine Verified = (text : List ℕ) → machine ≡ Some text → IsSafeText text
@@ -73,11 +74,11 @@ pub record PossibleMeans (circuit answer : Option (List ℕ)) (verdict : Verdict
   pub judged : OfPossible circuit answer (λ c lits. IsPossibleJudged lits c verdict text)
   pub possible : (said : List ℕ) → circuit ≡ Some said → verdict ≡ Verified → IsPossibleText said
 
-pub record DifferentMeans (circuit other answer : Option (List ℕ)) (verdict : Verdict) (text : List ℕ) : Type 0 where
+pub record DifferentMeans (pairing : Pairing) (circuit other answer : Option (List ℕ)) (verdict : Verdict) (text : List ℕ) : Type 0 where
   pub judged : (said other_said : List ℕ) → circuit ≡ Some said → other ≡ Some other_said
-      → OfDifferent (Some said) (Some other_said) answer (λ c d lits. IsDifferentJudged lits c d verdict text)
+      → OfDifferent pairing said other_said answer (λ c d lits. IsDifferentJudged lits c d verdict text)
   pub different : (said other_said : List ℕ) → circuit ≡ Some said → other ≡ Some other_said → verdict ≡ Verified
-      → AreDifferentText said other_said
+      → AreDifferentText pairing said other_said
 
 -- ---- what a call shows
 
@@ -112,14 +113,14 @@ pub data MeansNever (files : List ℕ → Option (List ℕ)) (unwritten : Option
 pub data MeansSame (files : List ℕ → Option (List ℕ)) (unwritten : Option (List ℕ)) (place : List ℕ → Option (List ℕ))
     (old new : Option (List (List ℕ × List ℕ))) (options : List Choice) (circuit other : List ℕ) (shown : Shown) : Type 0 where
   same_proof : (proof : List ℕ) → HasFiles options (Some proof) None None
-      → Proves Same (SameMeans (files circuit) (files other)) shown
+      → Proves Same (SameMeans (pairing_of options) (files circuit) (files other)) shown
       → MeansSame files unwritten place old new options circuit other shown
   same_answer : (answer : List ℕ) → HasFiles options None (Some answer) None
-      → Answers (DifferentMeans (files circuit) (files other) (files answer)) shown
+      → Answers (DifferentMeans (pairing_of options) (files circuit) (files other) (files answer)) shown
       → MeansSame files unwritten place old new options circuit other shown
   same_formula : (file : List ℕ) → HasFiles options None None (Some file)
       → Writes ((text other_text : List ℕ) → files circuit ≡ Some text → files other ≡ Some other_text → unwritten ≡ Some []
-      → NamesFormula (IsSameFormula (Some text) (Some other_text)) (place file) old new) shown
+      → NamesFormula (IsSameFormula (pairing_of options) text other_text) (place file) old new) shown
       → MeansSame files unwritten place old new options circuit other shown
 
 -- by three proofs, or as three formulas

@@ -2,10 +2,11 @@
 //! `--proof PROOF`, `--answer ANSWER` or `--formula FILE`: checks a proof that a circuit is never
 //! true, or that two circuits are the same, and says it in one line; checks an answer that this is
 //! false, and says it with the input and the outputs; or writes the formula that a solver is to
-//! refute. If an input or output has different names in two circuits, it warns, or with `--names`
-//! refuses. The command `circuit_check safe MACHINE INVARIANT` does the same for a machine that an
-//! invariant shows to be safe, with three proofs and three formulas. The command `circuit_check
-//! safe MACHINE --stimulus STIMULUS` checks by a simulation that a machine is not safe.
+//! refute. Inputs and outputs of two circuits are paired by their names; by their positions, if
+//! there are none, or with `--by-position`. The command `circuit_check safe MACHINE INVARIANT` does
+//! the same for a machine that an invariant shows to be safe, with three proofs and three formulas.
+//! The command `circuit_check safe MACHINE --stimulus STIMULUS` checks by a simulation that a
+//! machine is not safe.
 //!
 //! `--example` checks a small fixed example, `--help` says how the program is called, and
 //! `--version` of which version it is.

@@ -1,18 +1,19 @@
-//! The names of inputs and outputs in the texts of two circuits in AIGER, and the first two that
-//! differ.
+//! The names of inputs and outputs in the texts of two circuits in AIGER, by which these are paired.
 //!
 //! Source: Biere, Heljanko, Wieringa, AIGER 1.9 and beyond, 2011.
 #![tactic(auto)]
 
-mod difference;
+mod arranged;
 mod fault;
 mod laws;
 mod names;
+mod pairing;
 mod place;
+mod positions;
 mod table;
 
-pub use difference::Difference;
-pub use fault::NamesFault;
+pub use fault::{PairFault, Spot};
 pub use laws::name_rows;
-pub use names::first_difference;
+pub use names::Which;
+pub use pairing::{Pairing, names_nothing, paired};
 pub use place::Kind;

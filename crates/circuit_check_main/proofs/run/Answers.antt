@@ -20,7 +20,7 @@ pub returns-in-Same-clause-ends : goal.returns-in-Same-clause-ends
 returns-in-Same-clause-ends g c =
     let claimed = rw c.in-Same.is at c.in_ok-claimed.ensures in
     let alone : is_given (choices_of c.args.call.now) (codes "--example") ≡ false = cc in
-    means_more _ _ _ _ (λ shown h. of_same _ _ claimed alone h) c.run_of_same.result c.run_of_same.ensures.ends
+    means_more _ _ _ _ (λ shown h. of_same _ _ claimed.0 alone h) c.run_of_same.result c.run_of_same.ensures.ends
 
 pub returns-in-Safe-clause-ends : goal.returns-in-Safe-clause-ends
 returns-in-Safe-clause-ends g c =

@@ -10,6 +10,7 @@ returns-in-Ok-never_formula-clause-formula g c = record {
   says = c.in-Ok.ensures.gates.says;
   shape = c.in-Ok.ensures.gates.shape;
   has = c.in-Ok-never_formula.ensures.formula;
+  none = c.in-Ok-never_formula.ensures.none;
 }
 
 pub returns-clause-fault : goal.returns-clause-fault
