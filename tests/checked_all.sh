@@ -171,6 +171,11 @@ case_measured() {
   . "$top/tests/checked_all/measured.sh"
 }
 
+case_paper() {
+  # shellcheck source=/dev/null
+  . "$top/tests/checked_all/paper.sh"
+}
+
 case_continued() {
   # shellcheck source=/dev/null
   . "$top/tests/checked_all/continued.sh"

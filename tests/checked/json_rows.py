@@ -26,12 +26,18 @@ def tables(formats):
 
 def faults(fields, causes, line, status, verdict, cause, reason):
     found = json.loads(line)
-    if list(found) != list(fields) or not all(TYPES[kind](found[name]) for name, kind in fields.items()):
+    if list(found) != list(fields) or not all(
+        TYPES[kind](found[name]) for name, kind in fields.items()
+    ):
         yield "its fields are not those of FORMATS"
         return
     if found["cause"] is not None and found["cause"] not in causes:
         yield f"FORMATS has no cause {found['cause']}"
-    if (found["status"], found["verdict"] or "", found["cause"] or "") != (int(status), verdict, cause):
+    if (found["status"], found["verdict"] or "", found["cause"] or "") != (
+        int(status),
+        verdict,
+        cause,
+    ):
         yield "its status, verdict or cause"
     if not any(reason in it for it in found["reason"]) if reason else found["reason"]:
         yield "its reason"

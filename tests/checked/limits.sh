@@ -1,8 +1,13 @@
 # shellcheck shell=bash disable=SC2154,SC2034
-# A limit for both, or one for the solver and one for the checker; and what measures them. Read by tests/checked.sh.
+# A limit for both, or one for the solver and one for the checker; and what measures them. Read by
+# tests/checked.sh.
 
 # Where nothing but the header is asked of the formula, before the solver runs, it takes no time.
-printf '#!/bin/sh\n[ "$2" = /dev/null ] || sleep "${SLEEP:-60}"\nexec drat_check "$@"\n' > slow_check
+cat > slow_check << 'END'
+#!/bin/sh
+[ "$2" = /dev/null ] || sleep "${SLEEP:-60}"
+exec drat_check "$@"
+END
 chmod +x slow_check
 solver slow_refuter << 'END'
 sleep 3; exec refuter "$@"
@@ -23,8 +28,10 @@ over() {
 # one limit is for both together, and two count apart
 over limit 'there is no verdict after 5 seconds' \
   env DRAT_CHECK=./slow_check SLEEP=4 checked --json --limit 5 slow_refuter four.cnf
-ends 20 "$unsat" env DRAT_CHECK=./slow_check SLEEP=4 checked --limit 60 --check-limit 60 refuter four.cnf
-over limit 'the solver gave no answer within 4 seconds' checked --json --limit 4 --check-limit 60 sleepy four.cnf
+ends 20 "$unsat" \
+  env DRAT_CHECK=./slow_check SLEEP=4 checked --limit 60 --check-limit 60 refuter four.cnf
+over limit 'the solver gave no answer within 4 seconds' \
+  checked --json --limit 4 --check-limit 60 sleepy four.cnf
 for limits in '--limit 60 --check-limit=2' '--check-limit=2'; do
   # shellcheck disable=SC2086
   over 'check limit' 'the checker gave no verdict within 2 seconds' \

@@ -1,6 +1,6 @@
 # shellcheck shell=bash disable=SC2154,SC2034
-# `checked --safe berkeley-abc`: machines whose invariant or whose run ABC finds, by yosys and by tests/circuit_check/search.py; and
-# stand-ins for ABC that are wrong. Read by tests/checked.sh.
+# `checked --safe berkeley-abc`: machines whose invariant or whose run ABC finds, by yosys and by
+# tests/circuit_check/search.py; and stand-ins for ABC that are wrong. Read by tests/checked.sh.
 
 if ! PATH=$reach type -P python3 > where; then
   ends 2 '' checked --safe refuter-abc machine.aig
@@ -12,11 +12,13 @@ if ! PATH=$reach type -P python3 > where; then
   return
 fi
 on_path circuit_pdr
-# a latch that keeps its 0; one that keeps its 1, which the form of ABC turns; and one that takes its input, by what it is next
+# a latch that keeps its 0; one that keeps its 1, which the form of ABC turns; and one that takes
+# its input, by what it is next
 printf 'aig 1 0 1 1 0\n2\n2\n' > kept.aig
 printf 'aig 1 0 1 1 0\n2 1\n3\n' > turned.aig
 printf 'aig 2 1 1 1 0\n2\n4\n' > taken.aig
-# the same with a constraint, that the input is 0; and with two bad outputs, of which the second one is reached
+# the same with a constraint, that the input is 0; and with two bad outputs, of which the second one
+# is reached
 printf 'aig 2 1 1 0 0 1 1\n2\n4\n3\n' > granted.aig
 printf 'aig 2 1 1 0 0 2\n2\n0\n4\n' > second.aig
 # (a machine without a reset)
@@ -93,10 +95,12 @@ sed -i "s|pids|$work/pids|g; s|begun|$work/begun|g" bin/abc
 stopped TERM 143 checked --safe --refuter refutes abc kept.aig
 rm bin/abc
 
-# ABC itself: small machines, against a search of all their states; and designs by yosys with a synchronous reset, word for word
+# ABC itself: small machines, against a search of all their states; and designs by yosys with a
+# synchronous reset, word for word
 only_with berkeley-abc
 real=$(PATH=${PATH#"$work/bin:"} type -P cadical) || untried "$(missing cadical)"
-PATH=$PATH python3 -B "$top/tests/circuit_check/search.py" "${MACHINES:-12}" 1 "$real" > said || fault "$(cat said)"
+search=("$top/tests/circuit_check/search.py" "${MACHINES:-12}" 1 "$real")
+PATH=$PATH python3 -B "${search[@]}" > said || fault "$(cat said)"
 only_with yosys
 awk '/^for name in/ { on = 0 } /write_aiger -zinit/ { print }' "$top/docs/USING.md" > recipe
 same 'recipes for machines' 1 "$(wc -l < recipe)"
@@ -113,6 +117,10 @@ END
 for limit in 8 10; do
   sed "s/n < 8/n < $limit/" fifo.v > machine.v
   PATH=$PATH bash recipe > said 2>&1 || cat said
-  ends "$((limit == 8 ? 20 : 10))" "$([[ $limit == 8 ]] && echo "$safe" || echo "$reached")" checked --safe --refuter "$real" \
-    berkeley-abc machine.aig
+  call=(checked --safe --refuter "$real" berkeley-abc machine.aig)
+  if ((limit == 8)); then
+    ends 20 "$safe" "${call[@]}"
+  else
+    ends 10 "$reached" "${call[@]}"
+  fi
 done

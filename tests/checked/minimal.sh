@@ -1,5 +1,6 @@
 # shellcheck shell=bash disable=SC2154,SC2034
-# `checked --minimal`: a formula none of whose clauses is too many, and ones that are not so. Read by tests/checked.sh.
+# `checked --minimal`: a formula none of whose clauses is too many, and ones that are not so. Read
+# by tests/checked.sh.
 
 printf 'c a core\np cnf 3 3\n1 2\n 0 -1\t0\n-2 0\n' > core.cnf
 printf 'p cnf 2 4\n1 2 0\n-1 0\n-2 0\n1 -2 0\n' > fat.cnf

@@ -1,7 +1,9 @@
 # shellcheck shell=bash disable=SC2154,SC2034
-# Calls that are nearly right, each answered with the right one, and options by one letter. Read by tests/checked.sh.
+# Calls that are nearly right, each answered with the right one, and options by one letter. Read by
+# tests/checked.sh.
 
-# answered STATUS WORDS CALL..: in one line, which has these words, and none is of the length of a usage line
+# answered STATUS WORDS CALL..: in one line, which has these words, and none is of the length of a
+# usage line
 answered() {
   ends "$1" '' "${@:3}"
   because "$2"
@@ -12,11 +14,15 @@ answered() {
 }
 
 # operands the other way round, and words behind the formula
-answered 2 'cannot run four.cnf: the solver comes first, as in: checked refuter four.cnf' checked four.cnf refuter
-answered 2 'cannot run four.cnf: the solver comes first, and the formula last' checked four.cnf other.cnf
-answered 2 'cannot open -q: options of the solver come before the formula, and those of checked before the solver' checked refuter four.cnf -q
+answered 2 'cannot run four.cnf: the solver comes first, as in: checked refuter four.cnf' \
+  checked four.cnf refuter
+answered 2 'cannot run four.cnf: the solver comes first, and the formula last' \
+  checked four.cnf other.cnf
+order='options of the solver come before the formula, and those of checked before the solver'
+answered 2 "cannot open -q: $order" checked refuter four.cnf -q
 answered 2 'cannot open -q: options of the solver' checked --same refuter one.aig two.aig -q
-answered 2 'cannot open 5: the formula comes last, also if it is four.cnf' checked refuter four.cnf --limit 5
+answered 2 'cannot open 5: the formula comes last, also if it is four.cnf' \
+  checked refuter four.cnf --limit 5
 answered 2 'cannot open none.cnf' checked refuter --limit none.cnf
 if grep -q 'comes last' err; then
   echo "a formula that is not there is blamed on the order of words: $(cat err)"
@@ -26,15 +32,17 @@ cp four.cnf ./-q
 ends 20 "$unsat" checked refuter -q
 
 # solvers that write no proof, and one that could
+others='proof that can be checked: cadical, kissat, glucose, picosat and cryptominisat5 do'
 for name in minisat clasp z3-4.8 lingeling; do
   solver "$name" << 'END'
 exit 20
 END
-  answered 1 "and $name writes no proof that can be checked: cadical, kissat, glucose, picosat and cryptominisat5 do" checked "$name" four.cnf
+  answered 1 "and $name writes no $others" checked "$name" four.cnf
 done
 answered 1 'was asked for no proof: SOLVER FORMULA' checked --no-proof refuter four.cnf
 
-# LRAT where DRAT is read: as cadical writes it, with a deletion first, and a proof that only looks so
+# LRAT where DRAT is read: as cadical writes it, with a deletion first, and a proof that only looks
+# so
 solver lrat_writer << 'END'
 printf '5 1 0 1 2 0\n6 0 5 3 4 0\n' > "$2"; exit 20
 END
@@ -42,7 +50,8 @@ solver deleter << 'END'
 printf '4 d 1 0\n5 1 0 1 2 0\n6 0 5 3 4 0\n' > "$2"; exit 20
 END
 for name in lrat_writer deleter; do
-  answered 1 'the proof begins as LRAT text: with --lrat, lrat_check checks it' checked "$name" four.cnf
+  answered 1 'the proof begins as LRAT text: with --lrat, lrat_check checks it' \
+    checked "$name" four.cnf
 done
 ends 20 "$unsat" checked --lrat lrat_writer four.cnf
 ends 1 '' checked --lrat deleter four.cnf

@@ -40,11 +40,17 @@ def main(count, seed, solver):
         with open("drawn.aig", "wb") as file:
             file.write(aiger.write(c))
         reached = Machine(c).reached()[1]
-        ran = subprocess.run(["checked", "--safe", "--refuter", solver, "berkeley-abc", "drawn.aig"], capture_output=True, text=True)
+        ran = subprocess.run(
+            ["checked", "--safe", "--refuter", solver, "berkeley-abc", "drawn.aig"],
+            capture_output=True,
+            text=True,
+        )
         counts[reached] += 1
         if (ran.returncode, ran.stdout) != ANSWERS[reached]:
             wrong += 1
-            print(f"machine {number}: {reached}, but status {ran.returncode}: {ran.stdout}{ran.stderr}{c.show()}")
+            print(
+                f"machine {number}: {reached}, but status {ran.returncode}: {ran.stdout}{ran.stderr}{c.show()}"
+            )
     print(f"{counts[False]} machines are safe, {counts[True]} are not, {wrong} wrong")
     return 1 if wrong or not all(counts[it] for it in ANSWERS) else 0
 

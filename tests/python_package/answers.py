@@ -46,8 +46,21 @@ class Rows(unittest.TestCase):
         self.assertEqual(table.row_of(line_of(before)), {**row("f", UNSAT), "edited": False})
 
     def test_lines_that_are_none(self):
-        wrong = [{**row("f", UNSAT), **it} for it in ({"outcome": "s VERIFIED"}, {"status": "20"}, {"solving": {}}, {"checking": []}, {"sums": [{}]}, {"more": 1})]
-        wrong += [{**row("f", UNSAT, 1.0), "solving": {**took(1.0), "memory": 1.5}}, {"formula": "f"}]
+        wrong = [
+            {**row("f", UNSAT), **it}
+            for it in (
+                {"outcome": "s VERIFIED"},
+                {"status": "20"},
+                {"solving": {}},
+                {"checking": []},
+                {"sums": [{}]},
+                {"more": 1},
+            )
+        ]
+        wrong += [
+            {**row("f", UNSAT, 1.0), "solving": {**took(1.0), "memory": 1.5}},
+            {"formula": "f"},
+        ]
         for values in wrong:
             self.assertIsNone(table.row_of(line_of(values)), values)
         for text in ("", "1", "[]", "{", '{"row": 1}'):
@@ -71,32 +84,64 @@ class Reports(unittest.TestCase):
             self.assertEqual(report.par2([*two, row("c", outcome, 9.0)]), (26 / 3, 10.0))
         self.assertEqual(report.par2([*two, row("c", table.MALFORMED)]), (3.0, 10.0))
         # a verdict under another limit counts, and what is not solved has one
-        self.assertEqual(report.par2([row("a", SAT, 2.0, 5.0), row("b", table.NO_ANSWER, None, 10.0)]), (11.0, 10.0))
+        self.assertEqual(
+            report.par2([row("a", SAT, 2.0, 5.0), row("b", table.NO_ANSWER, None, 10.0)]),
+            (11.0, 10.0),
+        )
 
     def test_no_par2(self):
         unsolved = row("c", table.NO_ANSWER)
-        for rows in ([], [row("c", table.MALFORMED)], [row("a", SAT, 2.0, None)], [row("a", SAT), unsolved], [row("a", SAT, 11.0), unsolved]):
+        for rows in (
+            [],
+            [row("c", table.MALFORMED)],
+            [row("a", SAT, 2.0, None)],
+            [row("a", SAT), unsolved],
+            [row("a", SAT, 11.0), unsolved],
+        ):
             self.assertIsNone(report.par2(rows))
         self.assertIsNone(report.par2([unsolved, row("d", table.NO_ANSWER, None, 20.0)]))
         self.assertIsNone(report.par2([row("d", table.NO_ANSWER, None, None)]))
 
     def test_status(self):
-        for outcome, status in ((UNSAT, 0), (SAT, 0), (table.REJECTED, 1), (table.NO_ANSWER, 3), (table.NOT_CHECKED, 3), (table.MALFORMED, 3)):
+        for outcome, status in (
+            (UNSAT, 0),
+            (SAT, 0),
+            (table.REJECTED, 1),
+            (table.NO_ANSWER, 3),
+            (table.NOT_CHECKED, 3),
+            (table.MALFORMED, 3),
+        ):
             self.assertEqual(report.status_of([row("a", SAT, 1.0), row("b", outcome)]), status)
         self.assertEqual(report.status_of([row("a", table.REJECTED), row("b", table.NO_ANSWER)]), 1)
 
     def test_csv_quotes(self):
         odd = row('a, "b"', table.NO_ANSWER, reason="it said, so")
-        self.assertEqual(report.csv_of([odd]).splitlines()[1], '"a, ""b""",one,UNKNOWN,,,,,,,10.0,,"it said, so"')
+        self.assertEqual(
+            report.csv_of([odd]).splitlines()[1], '"a, ""b""",one,UNKNOWN,,,,,,,10.0,,"it said, so"'
+        )
 
     def test_curves(self):
-        rows = [row("a", SAT, 2.0), row("b", UNSAT, 1.0), row("c", table.REJECTED, 0.5), row("a", SAT, 3.0, solver="two words")]
+        rows = [
+            row("a", SAT, 2.0),
+            row("b", UNSAT, 1.0),
+            row("c", table.REJECTED, 0.5),
+            row("a", SAT, 3.0, solver="two words"),
+        ]
         self.assertEqual(report.curves_of(rows), {"one": [1.0, 2.0], "'two words'": [3.0]})
 
 
 class Plots(unittest.TestCase):
     def test_ticks(self):
-        rows = ((1, 0.2, 6), (3, 0.5, 7), (7, 1, 8), (8, 2, 5), (30, 5, 7), (31, 5, 8), (4321, 1000, 6), (0.031, 0.005, 8))
+        rows = (
+            (1, 0.2, 6),
+            (3, 0.5, 7),
+            (7, 1, 8),
+            (8, 2, 5),
+            (30, 5, 7),
+            (31, 5, 8),
+            (4321, 1000, 6),
+            (0.031, 0.005, 8),
+        )
         for top, step, count in rows:
             found = cactus.ticks_of(top)
             self.assertEqual(len(found), count, (top, found))
@@ -108,12 +153,19 @@ class Plots(unittest.TestCase):
         for curves in ({}, {"none": []}, {"zero": [0.0]}, {"a <b> & c": [0.5, 1.0], "d": [7.0]}):
             drawn = tree.fromstring(cactus.svg_of(curves))
             texts = [it.text for it in drawn.iter() if it.tag.endswith("text")]
-            points = [(float(it.get("cx")), float(it.get("cy"))) for it in drawn.iter() if it.tag.endswith("circle")]
+            points = [
+                (float(it.get("cx")), float(it.get("cy")))
+                for it in drawn.iter()
+                if it.tag.endswith("circle")
+            ]
             self.assertEqual(len(points), sum(map(len, curves.values())))
             for name, seconds in curves.items():
                 self.assertIn(f"{name} ({len(seconds)})", texts)
             for x, y in points:
-                self.assertTrue(cactus.LEFT <= x <= cactus.WIDTH and cactus.TOP <= y <= cactus.HEIGHT - cactus.BOTTOM)
+                self.assertTrue(
+                    cactus.LEFT <= x <= cactus.WIDTH
+                    and cactus.TOP <= y <= cactus.HEIGHT - cactus.BOTTOM
+                )
 
 
 class Measures(unittest.TestCase):
@@ -122,11 +174,19 @@ class Measures(unittest.TestCase):
         code = "import sys; from cefindrato import measure; sys.exit(measure.main('solver', sys.argv[1:]))"
         with tempfile.NamedTemporaryFile() as file:
             environment = {**os.environ, measure.FILE: file.name, "PYTHONPATH": LIB}
-            ran = subprocess.run([sys.executable, "-B", "-c", code, *words], env=environment, stderr=subprocess.PIPE)
+            ran = subprocess.run(
+                [sys.executable, "-B", "-c", code, *words], env=environment, stderr=subprocess.PIPE
+            )
             return ran.returncode, [json.loads(line) for line in file.read().splitlines()]
 
     def test_statuses(self):
-        for script, status in (("exit 0", 0), ("exit 20", 20), ("kill -KILL $$", -9), ("kill -SEGV $$", -11), ('test -z "$CHECKED_ALL_MEASURES"', 0)):
+        for script, status in (
+            ("exit 0", 0),
+            ("exit 20", 20),
+            ("kill -KILL $$", -9),
+            ("kill -SEGV $$", -11),
+            ('test -z "$CHECKED_ALL_MEASURES"', 0),
+        ):
             found, (line,) = self.measured("sh", "-c", script)
             self.assertEqual((found, line["role"]), (status, "solver"))
         self.assertEqual(self.measured("./none"), (127, []))
@@ -158,7 +218,10 @@ def drawn(draw):
 class Machines(unittest.TestCase):
     def test_gates(self):
         c = aiger.Circuit(2)
-        self.assertEqual([c.both(*it) for it in ((2, 0), (1, 2), (2, 2), (2, 3), (0, 0), (1, 1))], [0, 2, 2, 0, 0, 1])
+        self.assertEqual(
+            [c.both(*it) for it in ((2, 0), (1, 2), (2, 2), (2, 3), (0, 0), (1, 1))],
+            [0, 2, 2, 0, 0, 1],
+        )
         self.assertEqual(c.gates, [])
         self.assertEqual((c.both(2, 5), c.either(2, 4), c.gates), (6, 9, [(6, 5, 2), (8, 5, 3)]))
 
@@ -175,13 +238,21 @@ class Machines(unittest.TestCase):
         for _ in range(200):
             c = drawn(draw)
             one = machines.folded(aiger.read(aiger.write(c)))
-            self.assertEqual((one.bad, one.constraints, {reset for _, _, reset in one.latches}), ([], [], {0}))
-            state, other, granted = [reset for _, _, reset in c.latches], [0] * len(one.latches), True
+            self.assertEqual(
+                (one.bad, one.constraints, {reset for _, _, reset in one.latches}), ([], [], {0})
+            )
+            state, other, granted = (
+                [reset for _, _, reset in c.latches],
+                [0] * len(one.latches),
+                True,
+            )
             for _ in range(6):
                 inputs = [draw.randrange(2) for _ in range(c.inputs)]
                 of, its = c.values(inputs, state), one.values(inputs, other)
                 granted = granted and all(of[it] for it in c.constraints)
-                self.assertEqual(its[one.outputs[0]], granted and any(of[it] for it in c.bad or c.outputs))
+                self.assertEqual(
+                    its[one.outputs[0]], granted and any(of[it] for it in c.bad or c.outputs)
+                )
                 state = [of[after] for _, after, _ in c.latches]
                 other = [its[after] for _, after, _ in one.latches]
 
@@ -190,24 +261,35 @@ class Machines(unittest.TestCase):
             machines.folded(aiger.Circuit(0, [(2, 2, None)]))
 
     def test_cubes(self):
-        self.assertEqual(list(machines.cubes_of("# so\n.i 3\n1-0 1\n --- 1\n0-- 0\n.e\n")), [[(0, True), (2, False)], []])
-        self.assertEqual(list(machines.cubes_of(".ilb lo10 lo02\n01 1\n")), [[(10, False), (2, True)]])
+        self.assertEqual(
+            list(machines.cubes_of("# so\n.i 3\n1-0 1\n --- 1\n0-- 0\n.e\n")),
+            [[(0, True), (2, False)], []],
+        )
+        self.assertEqual(
+            list(machines.cubes_of(".ilb lo10 lo02\n01 1\n")), [[(10, False), (2, True)]]
+        )
 
     def test_unfolded(self):
         machine = aiger.Circuit(0, [(2, 2, 0), (4, 4, 1)])
         cubes = [[(0, True), (1, True), (2, False)], [(0, False), (2, True)], [(1, False)]]
-        self.assertEqual(list(machines.unfolded(machine, cubes)), [[(0, True), (1, False)], [(1, True)]])
+        self.assertEqual(
+            list(machines.unfolded(machine, cubes)), [[(0, True), (1, False)], [(1, True)]]
+        )
 
     def test_invariant(self):
         c = machines.invariant(1, 2, [[(0, True), (1, False)], [(1, True)]])
         for one in (0, 1):
             for other in (0, 1):
-                self.assertEqual(c.values([0, one, other])[c.outputs[0]], not (one and not other) and not other)
+                self.assertEqual(
+                    c.values([0, one, other])[c.outputs[0]], not (one and not other) and not other
+                )
 
     def test_stimulus(self):
         # the latch begins with 1 and takes its input; the second bad output is its negation
         machine = aiger.Circuit(1, [(4, 2, 1)], (), (0, 5), (), ())
-        self.assertEqual(machines.stimulus_of(machine, "00\n1\n0\n1\n1\n# DONE\n"), "1\nb1\n1\n1\n0\n1\n.\n")
+        self.assertEqual(
+            machines.stimulus_of(machine, "00\n1\n0\n1\n1\n# DONE\n"), "1\nb1\n1\n1\n0\n1\n.\n"
+        )
         for text in ("", "00\n1\n1\n", "00\n0\n", "00\n00\n0\n"):
             self.assertIsNone(machines.stimulus_of(machine, text))
         machine.constraints = [2]
