@@ -215,6 +215,7 @@ of_upstream() {
   quiet cargo build -q --manifest-path "$work/upstream/Cargo.toml"
   "$work/target/debug/items"
   "$work/target/debug/vectors" "$top"/crates/check_vectors/data/*
+  "$work/target/debug/texts"
   if [[ -x $programs/varisat_check ]]; then
     python3 "$own/upstream/compare.py" "$work/target/debug/proofs" "$programs/varisat_check" \
       "$top/tests/data" "${PROOFS:-20}"

@@ -8,6 +8,7 @@
 #include <stdbool.h>
 #include <stddef.h>
 #include <stdint.h>
+#include <stdio.h>
 #ifdef __cplusplus
 extern "C" {
 #endif
@@ -137,6 +138,26 @@ static inline cefindrato_model_answer cefindrato_check_model(const void *cnf, si
         return not_run;
     return cefindrato_model_check(cefindrato_bytes(cnf), cnf_len, cefindrato_bytes(answer), answer_len,
                                   text ? (uint8_t *)text : no_buffer, text_size);
+}
+
+/* Writes clauses, or steps of a DRAT proof, as the text that the checks take. Each is its literals and then a 0 in `numbers`; the one of
+ * number N, from 0 on, is a deletion if deletions[N] is true and `deletions` is not null. Returns the bytes of the whole text, of which the
+ * first `size` are written to `buffer`. What is no literal, or a last clause without its 0, is left to the checks, which reject it. */
+static inline size_t cefindrato_text_of(const int32_t *numbers, size_t count, const bool *deletions, char *buffer, size_t size) {
+    size_t len = 0, step = 0, at;
+    bool begins = true;
+    for (at = 0; at < count; at++) {
+        char word[16];
+        const bool ends = numbers[at] == 0, deletes = begins && deletions && deletions[step];
+        const int word_len = snprintf(word, sizeof word, "%s%ld%c", deletes ? "d " : "", (long)numbers[at], ends ? '\n' : ' ');
+        int put;
+        for (put = 0; put < word_len; put++, len++)
+            if (len < size)
+                buffer[len] = word[put];
+        begins = ends;
+        step += ends;
+    }
+    return len;
 }
 
 #ifdef __cplusplus

@@ -5,8 +5,10 @@
 #define CEFINDRATO_HPP
 #include "cefindrato.h"
 #include <memory>
+#include <stdexcept>
 #include <string>
 #include <string_view>
+#include <vector>
 
 namespace cefindrato {
 
@@ -51,6 +53,32 @@ struct Buffer {
 };
 
 } // namespace detail
+
+// A step of a DRAT proof.
+struct DratStep {
+    std::vector<int32_t> clause;
+    bool is_deletion = false;
+};
+
+// The steps as the text that the checks take. Throws std::invalid_argument if a literal is 0; others that are none the checks reject.
+inline std::string text_of(const std::vector<DratStep> &steps) {
+    std::string text;
+    for (const DratStep &step : steps) {
+        text += step.is_deletion ? "d " : "";
+        for (const int32_t literal : step.clause)
+            text += literal ? std::to_string(literal) + ' ' : throw std::invalid_argument("0 is no literal");
+        text += "0\n";
+    }
+    return text;
+}
+
+// The clauses as the text that the checks take. Throws as for steps.
+inline std::string text_of(const std::vector<std::vector<int32_t>> &clauses) {
+    std::string text;
+    for (const std::vector<int32_t> &clause : clauses)
+        text += text_of(std::vector<DratStep>{{clause}});
+    return text;
+}
 
 // Checks an LRAT proof, text or binary, against a DIMACS text. Where `why` is given it gets the text of a fault, and nothing otherwise.
 inline Answer check(std::string_view cnf, std::string_view proof, std::string *why = nullptr) {

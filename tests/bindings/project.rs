@@ -7,8 +7,10 @@ const FORMULA: &[u8] = b"p cnf 2 4\n1 2 0\n1 -2 0\n-1 2 0\n-1 -2 0\n";
 fn is_refuted() -> Result<bool, Fault> {
     let options = DratOptions { lrat: true, ..DratOptions::default() };
     let answer = check_drat(FORMULA, b"1 0\n0\n", options)?;
-    let Some(lines) = answer.lrat else { return Ok(false) };
-    Ok(check(FORMULA, &lines)? == Verdict::Verified)
+    match answer.lrat {
+        Some(lines) => Ok(check(FORMULA, &lines)? == Verdict::Verified),
+        None => Ok(false),
+    }
 }
 
 fn main() -> ExitCode {

@@ -64,6 +64,31 @@ static void expect_outputs(void) {
     is_so("no output without a proof", answer.status == CEFINDRATO_NOT_VERIFIED && holds(lrat, sizeof lrat, answer.lrat, ""));
 }
 
+/* Clauses and steps as numbers: their text, in each size of a buffer, and its checks. */
+static void expect_numbers(void) {
+    const int32_t clauses[] = {1, 2, 0, 1, -2, 0, -1, 2, 0, -1, -2, 0}, steps[] = {2, 1, 0, 1, 0, 0}, least[] = {INT32_MIN, 0};
+    const bool deletions[] = {true, false, false};
+    const char *cnf = "1 2 0\n1 -2 0\n-1 2 0\n-1 -2 0\n", *proof = "d 2 1 0\n1 0\n0\n";
+    char buffer[60];
+    size_t size;
+    for (size = 0; size <= sizeof buffer; size++) {
+        cefindrato_text text;
+        memset(buffer, '#', sizeof buffer);
+        text.whole = cefindrato_text_of(clauses, 12, NULL, buffer, size);
+        text.len = text.whole < size ? text.whole : size;
+        is_so("clauses as text", holds(buffer, sizeof buffer < size ? sizeof buffer : size, text, cnf));
+    }
+    is_so("steps as text", cefindrato_text_of(steps, 6, deletions, buffer, sizeof buffer) == strlen(proof));
+    is_so("the steps", memcmp(buffer, proof, strlen(proof)) == 0);
+    is_so("without the deleted clause", cefindrato_check_drat(cnf, strlen(cnf), buffer, strlen(proof), CEFINDRATO_DRAT, NULL, 0, NULL, 0,
+                                                              NULL, 0).status == CEFINDRATO_FAULT);
+    is_so("with it", cefindrato_check_drat(cnf, strlen(cnf), buffer + 8, strlen(proof) - 8, CEFINDRATO_DRAT, NULL, 0, NULL, 0, NULL, 0)
+                             .status == CEFINDRATO_VERIFIED);
+    size = cefindrato_text_of(least, 2, deletions, buffer, sizeof buffer);
+    is_so("the longest word", size == strlen("d -2147483648 0\n") && memcmp(buffer, "d -2147483648 0\n", size) == 0);
+    is_so("no numbers", cefindrato_text_of(NULL, 0, NULL, NULL, 0) == 0);
+}
+
 /* DRAT and FRAT: verdicts, faults, formats. */
 static void expect_drat(void) {
     const char *cnf = "1 2 0 1 -2 0 -1 2 0 -1 -2 0", *three = "1 2 0 1 -2 0 -1 2 0";
@@ -200,6 +225,7 @@ int main(int count, char **names) {
     expect("empty", cefindrato_check(NULL, 0, NULL, 0, NULL, 0), CEFINDRATO_NOT_VERIFIED, "", room);
     expect("open clause", cefindrato_check("1 2", 3, good, strlen(good), room, sizeof room), CEFINDRATO_FAULT,
            "formula: line 1: unterminated clause", room);
+    expect_numbers();
     expect_drat();
     expect_outputs();
     expect_models();

@@ -39,6 +39,19 @@ static void of_drat() {
     is_so("a format", cefindrato::check_drat(five, "1 0\n0\n", nullptr, {}, cefindrato::Format::drat) == Answer::verified);
 }
 
+static void of_lists() {
+    const std::string four = cefindrato::text_of(std::vector<std::vector<int32_t>>{{1, 2}, {1, -2}, {-1, 2}, {-1, -2}});
+    is_so("clauses", four == "1 2 0\n1 -2 0\n-1 2 0\n-1 -2 0\n");
+    const std::string steps = cefindrato::text_of({{{2, 1}, true}, {{1}}, {{}}});
+    is_so("steps", steps == "d 2 1 0\n1 0\n0\n" && cefindrato::check_drat(four, steps) == Answer::fault);
+    is_so("without the deletion", cefindrato::check_drat(four, std::string_view(steps).substr(8)) == Answer::verified);
+    try {
+        cefindrato::text_of({{{1, 0, 2}, false}});
+        is_so("0 is no literal", false);
+    } catch (const std::invalid_argument &) {
+    }
+}
+
 // One line with this many hints that it is longer than the room that is tried first.
 static void of_long_lines() {
     const int length = 200000;
@@ -78,6 +91,7 @@ int main(int, char **names) {
     expect(std::string_view("1 0\0", 4), "", Answer::fault, "formula: line 1: bad number");
 
     of_drat();
+    of_lists();
     of_long_lines();
     of_models();
 

@@ -17,6 +17,9 @@ use std::fmt;
 pub mod checker;
 mod library;
 mod lit;
+mod text;
+
+pub use text::{dimacs, drat, DratStep};
 
 /// What an accepted proof shows.
 #[derive(Clone, Copy, Debug, PartialEq, Eq)]

@@ -1,6 +1,6 @@
 //! Each call on texts of its own, with verdicts, faults and outputs, and from several threads.
-use cefindrato::{check, check_drat, check_model, version};
-use cefindrato::{DratOptions, Format, ModelVerdict, Verdict};
+use cefindrato::{check, check_drat, check_model, dimacs, lit, version};
+use cefindrato::{DratOptions, DratStep, Format, ModelVerdict, Verdict};
 
 const FOUR: &[u8] = b"1 2 0 1 -2 0 -1 2 0 -1 -2 0";
 
@@ -51,6 +51,18 @@ fn outputs() {
     assert_eq!(answer.core.unwrap(), b"p cnf 2 4\n1 2 0\n1 -2 0\n-1 2 0\n-1 -2 0\n");
     let none = check_drat(five, b"1 0\n", DratOptions { lrat: true, ..DratOptions::default() }).unwrap();
     assert_eq!((none.verdict, none.lrat.is_some()), (Verdict::Verified, true));
+}
+
+/// Lists as texts: without the deleted clause the last step does not follow.
+#[test]
+fn lists() {
+    let four = dimacs([[lit!(1), lit!(2)], [lit!(1), lit!(-2)], [lit!(-1), lit!(2)], [lit!(-1), lit!(-2)]]);
+    assert_eq!(four, b"1 2 0\n1 -2 0\n-1 2 0\n-1 -2 0\n");
+    let steps = [DratStep::Delete(vec![lit!(2), lit!(1)]), DratStep::Add(vec![lit!(1)]), DratStep::Add(vec![])];
+    assert_eq!(cefindrato::drat(steps.clone()), b"d 2 1 0\n1 0\n0\n");
+    let plain = DratOptions::default();
+    assert_eq!(check_drat(&four, &cefindrato::drat(steps[1..].to_vec()), plain).unwrap().verdict, Verdict::Verified);
+    assert!(fault(check_drat(&four, &cefindrato::drat(steps), plain)).0.starts_with("proof: step 2: "));
 }
 
 #[test]
