@@ -25,7 +25,7 @@ first_line bytes = take (line_length bytes) bytes
 abbrev pub name_at : List ℕ → ℕ → List ℕ
 name_at text start = if start == 0 then [] else first_line (drop start text)
 
--- the name that begins where this is said
+-- the name that begins at the index of its kind and position
 abbrev pub name_from : List ℕ → Starts → Kind → ℕ → List ℕ
 name_from text s kind position = name_at text (slice_index (starts_for s kind) position)
 
