@@ -253,7 +253,7 @@ of_cargo() {
   of_upstream "$work"
 }
 
-# Programs for varisat-checker with the true crate anyhow, of which the distribution has the sources.
+# Programs for varisat-checker with the true crate anyhow, whose sources the distribution packs.
 case_anyhow() {
   only_with cargo pkg-config
   registry=/usr/share/cargo/registry

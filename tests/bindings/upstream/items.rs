@@ -199,6 +199,26 @@ fn steps() -> Result<(), Error> {
     Ok(())
 }
 
+/// Derived units do not stand between a lemma and a deletion, and a step that names a variable makes it known to models.
+fn steps_without_calls() -> Result<(), Error> {
+    let mut seen = Seen::default();
+    let mut checker = Checker::new();
+    checker.add_processor(&mut seen);
+    checker.add_formula(&cnf_formula![1, 2, 3; 1, 2; 5; -5, 6])?;
+    let (clause, hashes) = (&lits![1, 2], &[hash(&lits![1, 2])]);
+    checker.self_check_step(ProofStep::AtClause { redundant: false, clause, propagation_hashes: hashes })?;
+    checker.self_check_step(ProofStep::UnitClauses { units: &[(lit!(6), hash(&lits![-5, 6]))] })?;
+    let deleted = &lits![1, 2, 3];
+    checker.self_check_step(ProofStep::DeleteClause { clause: deleted, proof: DeleteClauseProof::Simplified })?;
+    assert!(checker.self_check_step(ProofStep::Model { assignment: &lits![1, 6, 9] }).is_err());
+    checker.self_check_step(ProofStep::ChangeSamplingMode { var: Var::from_dimacs(9), sample: true })?;
+    checker.self_check_step(ProofStep::Model { assignment: &lits![1, 6, 9] })?;
+    drop(checker);
+    let after = ["at 4 false [6] [2, 3]", "delete at 0 false [1, 2, 3] [1]", "model [1, 6, 9]"];
+    assert_eq!(seen.lines[4..], after);
+    Ok(())
+}
+
 /// A reader that has no permission.
 struct Shut;
 
@@ -265,6 +285,7 @@ fn main() -> Result<(), Error> {
     signatures();
     literals();
     steps()?;
+    steps_without_calls()?;
     faults();
     Ok(())
 }

@@ -21,11 +21,11 @@ def lits(clause):
 
 
 class Maker:
-    """A proof that is being made. What it keeps of clauses and names need not be what a checker has."""
+    """A proof that is being made. Its clauses and names need not be those that a checker has."""
 
     def __init__(self, chance):
-        self.chance, self.clauses, self.assumed, self.names, self.pending, self.width = chance, [], [], {}, [], 64
-        self.bytes = b""
+        self.chance, self.bytes = chance, b""
+        self.clauses, self.assumed, self.names, self.pending, self.width = [], [], {}, [], 64
 
     def var(self):
         return self.chance.randint(1, VARS)
@@ -62,7 +62,8 @@ class Maker:
         """Literals that satisfy the clauses, if there are some."""
         for _ in range(40):
             chosen = [var * self.chance.choice((1, -1)) for var in range(1, VARS + 1)]
-            if all(set(chosen) & set(it) for it in [*self.clauses, *([lit] for lit in self.assumed)]):
+            clauses = [*self.clauses, *([lit] for lit in self.assumed)]
+            if all(set(chosen) & set(it) for it in clauses):
                 break
         return chosen[: self.chance.choice((VARS, VARS, VARS - 1))]
 
@@ -95,7 +96,8 @@ class Maker:
             self.bytes += bytes([7, self.chance.randint(0, 2)]) + lits(gone)
         elif kind == 8 and self.clauses:
             unit = [clause[0]]
-            self.bytes += b"\x08\x01" + number(code(unit[0])) + number(self.hash(self.chance.choice(self.clauses)))
+            reason = self.hash(self.chance.choice(self.clauses))
+            self.bytes += b"\x08\x01" + number(code(unit[0])) + number(reason)
             self.clauses.append(unit)
         elif kind == 9:
             self.width = self.chance.choice((64, 64, 33, 7, 2, 1))
