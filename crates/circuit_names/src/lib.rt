@@ -1,4 +1,4 @@
-//! The names of inputs and outputs in the texts of two circuits in AIGER, by which these are paired.
+//! The names of inputs and outputs in two texts in AIGER, by which they are paired.
 //!
 //! Source: Biere, Heljanko, Wieringa, AIGER 1.9 and beyond, 2011.
 #![tactic(auto)]

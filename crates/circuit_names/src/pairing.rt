@@ -24,8 +24,9 @@ pub enum Pairing {
 }
 
 /// Returns the second circuit, with its inputs and outputs in the order of those of the first one
-/// with which they are paired. The gates keep their variables. If the circuits have other numbers
-/// of inputs or outputs, it is returned as it is.
+/// with which they are paired. The gates keep their variables; latches, bad outputs and constraints
+/// stay as they are, so neither circuit should have any. If the circuits have other numbers of
+/// inputs or outputs, it is returned as it is.
 ///
 /// # Errors
 ///

@@ -22,7 +22,7 @@ impl<'a> Positions<'a> {
     ///
     /// # Errors
     ///
-    /// `Unnamed` or `Repeated` for the first one without a name, or with the name of an earlier one;
+    /// `Unnamed` or `Repeated` for the first one without a name, or with that of an earlier one;
     /// `OutOfMemory`.
     pub(crate) fn of(
         alloc: Global,
