@@ -39,9 +39,13 @@ tests/weak_edits.sh "$told/gate"
 archive=$(bindings/build.sh --archive)
 waiting='bindings install ipasir release'
 . tests/run/scripts.sh
-scripts=(library layout 'wrong_bodies --asked' portable listed_files release slurm refused_growths sessions session_check cubes pieces pieces_run pieces_solvers ipasir
-  failing_files drat_fuzz drat_growth lrat_fuzz drat_outputs install bindings log_lines end_to_end rows drat_solvers frat large_formulas
-  named_files examples records checked checked_all verified definitions proof_picture solver_runs prove_and_run memory model_check follows
-  join receipts circuit_check circuits dist packages python_package test_run changed kept)
+scripts=(library layout 'wrong_bodies --asked' portable listed_files release slurm refused_growths
+  sessions sessions_files sessions_recorded session_check cubes cubes_files cubes_machines pieces
+  pieces_run pieces_solvers ipasir failing_files endless_files drat_fuzz drat_growth lrat_fuzz
+  drat_outputs drat_output_files install bindings log_lines end_to_end end_to_end_lrat rows
+  drat_solvers frat large_formulas named_files named_kinds examples records checked checked_all
+  verified definitions proof_picture solver_runs prove_and_run memory model_check follows join
+  receipts circuit_check circuits dist packages python_package test_run test_counts test_tools
+  changed kept)
 # (two more than there are processors, since at first two wait for the library)
 run_scripts "$(($(nproc) + 2))" "${scripts[@]}"

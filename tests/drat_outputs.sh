@@ -1,142 +1,12 @@
 #!/usr/bin/env bash
-# What `drat_check` writes by its options --lrat, --trim and --core: the lines are accepted by `lrat_check`, the steps are those
-# of the lines, and verified after the formula and after the clauses that are used, and these are some of the formula's, as
-# their header says, and refuted by the same proof. With --binary the lines are those of the text, in half its bytes at most.
-# And which files it refuses to write.
-#
-# The programs must be built: `rt ci` does it, or `rt run` in their folders.
+# What `drat_check` writes by its options --lrat, --trim and --core: the lines are accepted by
+# `lrat_check`, the steps are those of the lines, and verified after the formula and after the
+# clauses that are used, and these are some of the formula's, as their header says, and refuted by
+# the same proof. With --binary the lines are those of the text, in half its bytes at most.
 set -euo pipefail
 . "$(dirname "$0")/lib.sh"
-check=$(built drat_check)
-lrat_check=$(built lrat_check)
-cd "$work"
-
-# given: the formula f and the proof p
-given() {
-  printf 'p cnf 4 5\n1 2 0\n1 -2 0\n-1 2 0\n-1 -2 0\n3 4 0\n' > f
-  printf '1 0\nd 1 2 0\n0\n' > p
-}
-
-# wants STATUS OUTPUT ERRORS ARGUMENT..: a run over the formula f and the proof p must do this, and leave both as they are
-wants() {
-  local status=0
-  given
-  cp f f.before
-  cp p p.before
-  ln -f p hard
-  ln -sf f soft
-  "$check" "${@:4}" > out 2> err || status=$?
-  if [[ $status == "$1" && $(cat out) == "$2" && $(cat err) == "$3" ]] && cmp -s f f.before && cmp -s p p.before; then
-    echo "ok    ${*:4}"
-  else
-    fault "${*:4}: status $status, output '$(cat out)', errors '$(cat err)'"
-  fi
-}
-
-# empty FILE..: the files are there, and nothing is in them
-empty() {
-  local file
-  for file; do
-    [[ -f $file && ! -s $file ]] || fault "$file is not there, or not empty"
-  done
-}
-
-# keep FILE..: something stands in the files
-keep() {
-  local file
-  for file; do
-    printf kept > "$file"
-  done
-}
-
-# kept WHAT FILE..: that stands there still
-kept() {
-  local file
-  for file in "${@:2}"; do
-    [[ $(cat "$file") == kept ]] || fault "$1: $file is not as it was"
-  done
-}
-
-# alone WHAT FILE..: no file stands beside these that is not whole
-alone() {
-  local file
-  for file in "${@:2}"; do
-    [[ -z $(compgen -G "$file.*.new") ]] || fault "$1: $(compgen -G "$file.*.new") is left"
-  done
-}
-
-# clauses FILE: the clauses of a text with one on each line, in the order of their text
-clauses() {
-  grep -v '^[pc]' "$1" | sort
-}
-
-# counts: what the lines and the core that were written have
-counts() {
-  awk '
-    $2 != "d" {
-      lemmas++
-      redundant = given = 0
-      for (i = 2; $i != "0"; i++);
-      for (i++; $i != "0"; i++) {
-        hints++
-        if ($i < 0) redundant = 1
-        given = 1
-      }
-      # without hints nothing follows: no clause has the negation of the first literal
-      if (!given) redundant = 1
-      all_redundant += redundant
-    }
-    END { printf "c lemmas %d\nc rat_lemmas %d\nc hints %d\n", lemmas, all_redundant, hints }
-  ' lrat
-  echo "c core_clauses $(clauses core | wc -l)"
-}
-
-# outputs NAME CNF PROOF: both outputs, and each alone, say what they should
-outputs() {
-  local name=$1 said
-  rm -f lrat trim core lrat.alone trim.alone core.alone
-  said=$("$check" "$2" "$3" --lrat lrat --trim trim --core core --stats 2> err) || true
-  [[ $said == 's VERIFIED UNSAT' ]] || fault "$name: $said $(cat err)"
-  [[ $(grep -Ev '^c (steps|seconds|memory_kb) ' err) == "$(counts)" ]] || fault "$name: counted $(cat err), and not $(counts)"
-  said=$("$lrat_check" "$2" lrat 2> err) || true
-  [[ $said == 's VERIFIED UNSAT' ]] || fault "$name, its lines: $said $(cat err)"
-  [[ -z $(comm -13 <(clauses "$2") <(clauses core)) ]] || fault "$name: the core has clauses of its own"
-  [[ $(awk '$1 == "p" { print $4 }' core) == $(clauses core | wc -l) ]] || fault "$name: the core's header"
-  said=$("$check" core "$3" 2> err) || true
-  [[ $said == 's VERIFIED UNSAT' ]] || fault "$name, its core by the same proof: $said $(cat err)"
-  python3 -B "$top/tests/drat/trimmed.py" "$2" lrat | cmp -s - trim || fault "$name: the steps are not those of the lines"
-  said=$("$check" "$2" trim 2> err) || true
-  [[ $said == 's VERIFIED UNSAT' ]] || fault "$name, its steps: $said $(cat err)"
-  said=$("$check" core trim --trim trim.alone 2> err) || true
-  [[ $said == 's VERIFIED UNSAT' ]] || fault "$name, its steps after the core: $said $(cat err)"
-  (($(grep -vc '^d' trim.alone) <= $(grep -vc '^d' trim))) || fault "$name: more steps than those that were given"
-  said=$("$check" "$2" "$3" --trim trim.alone 2> err) || true
-  [[ $said == 's VERIFIED UNSAT' ]] && cmp -s trim trim.alone || fault "$name, the steps alone: $said $(cat err)"
-  said=$("$check" "$2" "$3" --core core.alone 2> err) || true
-  [[ $said == 's VERIFIED UNSAT' ]] && cmp -s core core.alone || fault "$name, the core alone: $said $(cat err)"
-  said=$("$check" "$2" "$3" --lrat lrat.alone 2> err) || true
-  [[ $said == 's VERIFIED UNSAT' ]] && cmp -s lrat lrat.alone || fault "$name, the lines alone: $said $(cat err)"
-}
-
-# binary_lines NAME CNF PROOF: after `outputs`, the same lines as bytes
-binary_lines() {
-  local name=$1 said
-  said=$("$check" "$2" "$3" --lrat lrat.binary --binary 2> err) || true
-  [[ $said == 's VERIFIED UNSAT' ]] || fault "$name, as bytes: $said $(cat err)"
-  python3 -B "$top/tests/lrat_fuzz/as_binary.py" lrat | cmp - lrat.binary || fault "$name: the bytes are not those of the text's lines"
-  said=$("$lrat_check" "$2" lrat.binary 2> err) || true
-  [[ $said == 's VERIFIED UNSAT' ]] || fault "$name, its bytes: $said $(cat err)"
-  if (($(stat -c %s lrat) > 10000 && 2 * $(stat -c %s lrat.binary) > $(stat -c %s lrat))); then
-    fault "$name: $(stat -c %s lrat.binary) bytes, and $(stat -c %s lrat) of text"
-  fi
-}
-
-given
-printf '1 x 0\n' > malformed
-printf '1 2 0\n1 -2 0\n-1 3 0\n' > three
-printf '1 0\nd 1 2 0\n' > piece
-printf '3 -1 0\n1 0\n' > next
-printf '1 0\n1 2 0\n' > gone
+# shellcheck source=SCRIPTDIR/drat_outputs/setup.sh
+. "$top/tests/drat_outputs/setup.sh"
 
 case_four() {
   wants 0 's VERIFIED UNSAT' '' f p --lrat l --core c
@@ -184,124 +54,8 @@ case_pairs() {
   binary_lines 'pair_exchanges 4' pairs.cnf pairs.dpr
 }
 
-# What is written has its name once it is whole: a run that is killed leaves what stood there, and beside it what it wrote, which
-# nobody takes away; here nothing is written yet.
-case_killed() {
-  mkfifo hold
-  exec 6<> hold
-  for signal in INT KILL; do
-    keep l c
-    rm -f l.*.new c.*.new
-    # in the background a shell has a program ignore INT
-    env --default-signal=INT "$check" f - --lrat l --core c < hold > out 2> err &
-    run=$!
-    for ((tries = 0; tries < 200; tries++)); do
-      [[ ! -e l.$run.new || ! -e c.$run.new ]] || break
-      sleep 0.05
-    done
-    kill -s "$signal" "$run"
-    wait "$run" 2> said || true
-    kept "$signal" l c
-    left=$(compgen -G '[lc].*.new' | sort) || true
-    [[ $left == c.*.new*l.*.new && ! -s out ]] || fault "$signal: no run was killed"
-    wants 0 's VERIFIED UNSAT' '' f p --lrat l --core c
-    [[ $(compgen -G '[lc].*.new' | sort) == "$left" ]] || fault "after $signal: $(compgen -G '[lc].*.new') in place of $left"
-    [[ $("$lrat_check" f l) == 's VERIFIED UNSAT' ]] || fault "the lines after $signal"
-  done
-  # here the lines are written in part, and here whole, and the clauses in part: a file may not be longer, and a pipe is full. Each
-  # clause makes the next variable true, so one step is the proof, and its lines and the core are long.
-  awk 'BEGIN { n = 20000; print "p cnf", n, n + 1; print "1 0"; for (i = 1; i < n; i++) print -i, i + 1, 0; print -n, 0 }' > chain.cnf
-  printf '0\n' > end
-  keep l c
-  (ulimit -c 0 -f 16 && exec "$check" chain.cnf end --lrat l --core c) > out 2> err || true
-  kept 'cut off' l c
-  [[ ! -s out ]] || fault 'a verdict beside lines that are cut off'
-  rm -f l.*.new c.*.new
-  for signal in INT KILL; do
-    keep l
-    rm -f l.*.new
-    env --default-signal=INT "$check" chain.cnf end --lrat l --core hold > out 2> err &
-    run=$!
-    for ((tries = 0; tries < 200; tries++)); do
-      [[ ! -s l.$run.new || $(tail -n 1 "l.$run.new") != *' 0' ]] || break
-      sleep 0.05
-    done
-    kill -s "$signal" "$run"
-    wait "$run" 2> said || true
-    kept "$signal at the core" l
-    [[ $("$lrat_check" chain.cnf "l.$run.new") == 's VERIFIED UNSAT' && ! -s out ]] || fault "$signal: the run was not killed at the core"
-  done
-  exec 6>&-
-  rm -f l.*.new
-  "$check" chain.cnf end --lrat l > out
-  [[ $("$lrat_check" chain.cnf l) == 's VERIFIED UNSAT' ]] || fault 'the lines of the chain'
-  alone 'the chain' l
-}
-
-# Links lead to the file that is written, which keeps its permissions.
-case_links() {
-  rm -f l real
-  keep real
-  chmod 600 real
-  ln -s real l
-  wants 0 's VERIFIED UNSAT' '' f p --lrat l
-  [[ -L l && $("$lrat_check" f real) == 's VERIFIED UNSAT' && $(stat -c %a real) == 600 ]] || fault 'the lines behind a link'
-  alone 'a link' l real
-  rm l
-}
-
-# Two runs that write one name at once have a file each, and the name is that of the later one.
-case_two_runs() {
-  printf '2 0\n0\n' > other.p
-  "$check" f other.p --lrat other.l > out
-  mkfifo slow
-  "$check" f slow --lrat l > out.slow 2> err.slow &
-  run=$!
-  exec 7> slow
-  for ((tries = 0; tries < 200; tries++)); do
-    [[ -z $(compgen -G 'l.*.new') ]] || break
-    sleep 0.05
-  done
-  sleep 0.5
-  wants 0 's VERIFIED UNSAT' '' f p --lrat l
-  [[ $("$lrat_check" f l) == 's VERIFIED UNSAT' ]] && ! cmp -s l other.l || fault 'the lines of the first of two runs at once'
-  cat other.p >&7
-  exec 7>&-
-  status=0
-  wait "$run" || status=$?
-  [[ $status == 0 && $(cat out.slow) == 's VERIFIED UNSAT' && ! -s err.slow ]] || fault "two runs at once: status $status, $(cat out.slow err.slow)"
-  cmp -s l other.l || fault 'the lines of the second of two runs at once'
-  alone 'two runs at once' l
-}
-
-# A file that is not of this run stays, also one of the name that the run would take first.
-case_strangers() {
-  # numbered ARGUMENT..: such a file is there, and the program has the number in its name
-  numbered() {
-    printf kept > "l.$BASHPID.new"
-    exec "$check" "$@"
-  }
-  for proof in p malformed.p; do
-    printf '1 x 0\n' > malformed.p
-    keep l.new
-    (numbered f "$proof" --lrat l) > out 2> err || true
-    kept "a stranger's file" l.new l.*.new
-    rm l.*.new l.new
-  done
-}
-
-# A beginning of the lines is no proof, and one of the clauses is not what its header says.
-case_beginnings() {
-  "$check" f p --lrat l --core c > out
-  head -n -1 l > begun.lines
-  head -n -1 c > begun.clauses
-  said=$("$lrat_check" f begun.lines) || true
-  [[ $said == 's NOT VERIFIED' ]] || fault "a beginning of the lines: $said"
-  "$check" begun.clauses p > out 2> err || true
-  grep -q '^warning: the header of begun.clauses is ' err || fault "a beginning of the clauses: $(cat out err)"
-}
-
-# Where the proof shows nothing, what stood there is replaced by nothing; where it is refused, it stays.
+# Where the proof shows nothing, what stood there is replaced by nothing; where it is refused, it
+# stays.
 case_no_verdict() {
   printf 'd 1 2 0\n1 0\n' > unfounded
   printf '' > open
@@ -319,59 +73,8 @@ case_no_verdict() {
   alone 'no verdict' l c
 }
 
-# An output that is a file that is read, or the other output.
-case_refused_outputs() {
-  for output in f p ./f ./p "$PWD/p" hard soft; do
-    for option in --lrat --core; do
-      wants 2 '' "cannot open $output"$'\n'"the output is a file that is read" f p "$option" "$output"
-    done
-    printf 'kept' > l
-    for arguments in "--lrat l --core $output" "--core l --lrat $output"; do
-      # shellcheck disable=SC2086
-      wants 2 '' "cannot open $output"$'\n'"the output is a file that is read" f p $arguments
-      [[ $(cat l) == kept ]] || fault "the other output is emptied: $arguments"
-    done
-  done
-  printf 'kept' > same
-  ln -f same other
-  for output in same ./same other; do
-    wants 2 '' "cannot open $output"$'\n'"both outputs are one file" f p --lrat same --core "$output"
-    [[ $(cat same) == kept ]] || fault "one file is emptied: $output"
-  done
-  wants 2 '' $'cannot open ./new\nboth outputs are one file' f p --lrat new --core ./new
-  kept 'names in conflict' same
-  cp p same.new
-  wants 0 's VERIFIED UNSAT' '' f same.new --lrat same
-  cmp -s p same.new || fault 'a proof is taken away'
-  wants 0 's VERIFIED UNSAT' '' f p --lrat same --core same.new
-  [[ $("$lrat_check" f same) == 's VERIFIED UNSAT' && $("$check" same.new p) == 's VERIFIED UNSAT' ]] || fault 'the names same and same.new'
-  alone 'outputs that are refused' l same same.new new
-  # a name that is empty, and links that lead to nothing: nothing is read, made or taken away
-  keep .new
-  ln -s nowhere dangling
-  ln -s itself itself
-  for option in --lrat --trim --core; do
-    wants 2 '' $'cannot open \nthe name of an output is empty' f p "$option" ''
-    wants 2 '' $'cannot open \nthe name of an output is empty' f p "$option="
-    for output in dangling itself; do
-      wants 2 '' "cannot open $output"$'\nthe output is a link that leads to nothing' f p "$option" "$output"
-    done
-  done
-  kept 'a name that is empty' .new
-  [[ -L dangling && -L itself && ! -e nowhere && -z $(compgen -G '*.*.new') ]] || fault "links to nothing: $(ls -A)"
-  wants 2 '' $'cannot open /dev/null\nboth outputs are one file' f p --lrat /dev/null --core /dev/null
-  wants 0 's VERIFIED UNSAT' '' f p --lrat /dev/null --core c
-}
-
-# A disk that is full: no line of a verdict, and the file is named.
-case_full_disk() {
-  wants 1 '' $'error writing: No space left on device (os error 28)\nin /dev/full' f p --lrat /dev/full --core c
-  wants 1 '' $'error writing: No space left on device (os error 28)\nin /dev/full' f p --core /dev/full --lrat l
-  wants 1 '' $'error writing: No space left on device (os error 28)\nin /dev/full' f p --trim /dev/full --lrat l
-  alone 'no verdict' l c
-}
-
-# One piece of a proof: its lines are accepted, and do not refute; a clause that is gone, one that is turned round, a conflict.
+# One piece of a proof: its lines are accepted, and do not refute; a clause that is gone, one that
+# is turned round, a conflict.
 case_piece() {
   printf '1 0\n-1 -3 0\n' > turned
   wants 0 's VERIFIED PIECE' '' three piece --holds next --lrat l
@@ -398,7 +101,8 @@ case_piece() {
   kept 'a piece that is not run' l
 }
 
-# A clause that has an id is there as long as it lives: named by `o`, added, and gone by its id; a tautology is, and what is redundant beside it.
+# A clause that has an id is there as long as it lives: named by `o`, added, and gone by its id; a
+# tautology is, and what is redundant beside it.
 case_piece_ids() {
   printf '1 2 0\n' > one
   printf 'p cnf 2 0\n' > none
@@ -433,7 +137,8 @@ case_piece_ids() {
   wants 1 '' $'error writing: No space left on device (os error 28)\nin /dev/full' three piece --holds next --lrat /dev/full
 }
 
-# The core of a piece: the clauses of the formula that are enough, over which the piece is verified again; nothing where a clause is missing.
+# The core of a piece: the clauses of the formula that are enough, over which the piece is verified
+# again; nothing where a clause is missing.
 case_piece_core() {
   wants 0 's VERIFIED PIECE' '' three piece --holds next --core c
   [[ $(cat c) == $'p cnf 3 3\n1 2 0\n1 -2 0\n-1 3 0' ]] || fault "the core of a piece: $(cat c)"

@@ -1,13 +1,15 @@
 #!/usr/bin/env bash
-# Whether sources and scripts keep one layout. In sources an operator begins its line, comments have at most 100 columns, and what stands
-# before an item is its documentation. In scripts shellcheck finds nothing to warn of, and pyflakes3 nothing. Where there are no sources,
-# or no scripts, that is said too.
+# Whether sources and scripts keep one layout. In sources an operator begins its line, comments have
+# at most 100 columns, and what stands before an item is its documentation. In scripts shellcheck
+# finds nothing to warn of, and pyflakes3 nothing. Where there are no sources, or no scripts, that
+# is said too.
 # needs: all
 set -euo pipefail
 . "$(dirname "$0")/lib.sh"
 cd "$top"
 
-# scripts_of ENDING WORD: the files with this ending, and those whose first line calls an interpreter of this name
+# scripts_of ENDING WORD: the files with this ending, and those whose first line calls an
+# interpreter of this name
 scripts_of() {
   git ls-files -z --cached --others --exclude-standard | LC_ALL=C xargs -0 awk -v ending="[.]$1\$" -v call="^#!.*[/ ]$2\$" '
     FNR == 1 { if (FILENAME ~ ending || $0 ~ call) print FILENAME; nextfile }'

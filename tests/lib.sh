@@ -51,7 +51,7 @@ leave() {
   if [[ $status == 0 && -e $work.untried ]]; then
     status=77
   fi
-  rm -rf "$work" "$work.begun" "$work.untried"
+  rm -rf "$work" "$work.begun" "$work.untried" "$work.others"
   if [[ $status == 0 && $cases_begun == 0 && ${#case_names[@]} -gt 0 ]]; then
     echo 'WRONG the cases were not tried: try_cases is not the last line'
     status=1
@@ -127,11 +127,33 @@ missing() {
   echo "$1 is not installed$(sed -n "s/^$1 \(.*\)/ (Debian: \1)/p" "$top/tests/run/optional.txt")"
 }
 
+# With ASKED_ONLY=1 no command of tests/run/optional.txt is on the path before `has` or `only_with`
+# has asked for it, though it is installed: so a script that ends well asks for all that it calls.
+if [[ ${ASKED_ONLY:-} ]]; then
+  export ALL_PATH=${ALL_PATH:-$PATH}
+  mkdir "$work/.asked" "$work.others"
+  while read -r -d : folder; do
+    ln -s "$folder"/* "$work.others/" 2> "$work/where" || true
+  done <<< "$ALL_PATH:"
+  sed -n 's/^\([^#][^ ]*\) .*/\1/p' "$top/tests/run/optional.txt" |
+    (cd "$work.others" && xargs rm -f)
+  export PATH=$work/.asked:$work.others
+fi
+
+# is_there PROGRAM: whether it is installed
+is_there() {
+  if [[ ${ASKED_ONLY:-} && ! -e $work/.asked/$1 ]]; then
+    PATH=$ALL_PATH type -P "$1" > "$work/where" || return 1
+    ln -s "$(< "$work/where")" "$work/.asked/$1"
+  fi
+  command -v "$1" > "$work/where"
+}
+
 # only_with PROGRAM..: the case ends here if one of them is not installed
 only_with() {
   local name
   for name in "$@"; do
-    command -v "$name" > "$work/where" || untried "$(missing "$name")"
+    is_there "$name" || untried "$(missing "$name")"
   done
 }
 
@@ -186,7 +208,7 @@ as_installed() {
 
 # has PROGRAM: whether it is installed; if not, that is said, unless no package has it
 has() {
-  command -v "$1" > "$work/where" || {
+  is_there "$1" || {
     grep -qx "$1 -" "$top/tests/run/optional.txt" || not_tried "$(missing "$1")"
     return 1
   }

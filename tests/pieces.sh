@@ -1,6 +1,7 @@
 #!/usr/bin/env bash
-# One DRAT proof in pieces, by `drat_cut`, `drat_check --holds`, `lrat_check --holds` and `tools/pieces`: a proof by hand, pieces that are missing, damaged,
-# of another proof or behind clauses that were changed; the words of calls; and some hundred random proofs against the whole.
+# One DRAT proof in pieces, by `drat_cut`, `drat_check --holds`, `lrat_check --holds` and
+# `tools/pieces`: a proof by hand, pieces that are missing, damaged, of another proof or behind
+# clauses that were changed; the words of calls; and some hundred random proofs against the whole.
 #
 #   tests/pieces.sh [COUNT [SEED]]    this many random proofs
 set -euo pipefail
@@ -28,8 +29,9 @@ case_drat_cut() {
   says 0 's VERIFIED UNSAT' drat_check cut.2.cnf cut.2.drat
 }
 
-# The same pieces as LRAT, text and binary, and one by hand: a piece that ends with a line that is rejected, a clause that was deleted,
-# that stands in another order or has a literal turned, and files that are not there, no formula or standard input.
+# The same pieces as LRAT, text and binary, and one by hand: a piece that ends with a line that is
+# rejected, a clause that was deleted, that stands in another order or has a literal turned, and
+# files that are not there, no formula or standard input.
 case_lrat() {
   says 0 's VERIFIED PIECE' drat_check eight.cnf cut.1.drat --holds cut.2.cnf --lrat one.lrat
   says 0 's VERIFIED PIECE' drat_check eight.cnf cut.1.drat --holds cut.2.cnf --lrat one.binary --binary
@@ -77,7 +79,8 @@ case_names() {
   says 3 'piece 1: 3 lemmas, 5 clauses live behind it' drat_cut eight.cnf <(head -n 11 eight.drat) open. --lemmas 1
 }
 
-# A formula that never ends, and in which no word does: the fault is that of the first byte that its line can't have. A comment has any bytes.
+# A formula that never ends, and in which no word does: the fault is that of the first byte that its
+# line can't have. A comment has any bytes.
 case_endless_formula() {
   { printf 'c \0\n'; cat eight.cnf; printf 'c'; head -c 100000 /dev/zero; } > zeros.cnf
   says 0 $'piece 1: 3 lemmas, 5 clauses live behind it\npiece 2: 2 lemmas, 7 clauses live behind it' \
@@ -94,7 +97,8 @@ case_endless_formula() {
   endless 'line 2: late header' '1 0\np'
 }
 
-# Where the first literal of a lemma comes again its witness begins, which is no part of the clause; with --drat it is.
+# Where the first literal of a lemma comes again its witness begins, which is no part of the clause;
+# with --drat it is.
 case_witness() {
   printf '1 2 2 1 -3 0\nd 2 1 0\n' > witness
   says 3 'piece 1: 1 lemmas, 8 clauses live behind it' drat_cut eight.cnf witness dpr.
@@ -103,7 +107,8 @@ case_witness() {
   holds drat.1.drat '1 2 -3 0'
 }
 
-# The same by `pieces`, into a folder in which others lie: what has the name of a piece stays, unless an earlier cut has marked the folder.
+# The same by `pieces`, into a folder in which others lie: what has the name of a piece stays,
+# unless an earlier cut has marked the folder.
 case_folder() {
   rm -r two
   mkdir two
@@ -138,7 +143,8 @@ case_folder() {
   says 0 '' pieces left eight.cnf two
 }
 
-# unjoined BODY WORDS: where this is in place of what joins the receipts, the report ends with these words
+# unjoined BODY WORDS: where this is in place of what joins the receipts, the report ends with these
+# words
 unjoined() {
   printf '#!/bin/sh\n%s\n' "$1" > bin/joiner
   chmod +x bin/joiner
@@ -156,7 +162,8 @@ case_joined() {
   JOIN_CHECK=./none says 2 'cannot run ./none: No such file or directory' pieces report eight.cnf two
 }
 
-# What is kept is of these clauses alone: of this formula, and of the clauses that the neighbour has.
+# What is kept is of these clauses alone: of this formula, and of the clauses that the neighbour
+# has.
 case_kept() {
   says 1 $'1: what is kept is of another formula\n1 of 2 pieces are not verified' pieces report seven.cnf two
   joins 3 seven.cnf
@@ -168,7 +175,8 @@ case_kept() {
   says 0 "$whole" pieces report eight.cnf two
   fails 1 '2: two/2.drat is rejected' pieces check eight.cnf two 2
   says 1 $'2: not verified\n1 of 2 pieces are not verified' pieces report eight.cnf two
-  # a literal is turned: the piece before does not hold the clause, and the one behind is of clauses that can be satisfied
+  # a literal is turned: the piece before does not hold the clause, and the one behind is of clauses
+  # that can be satisfied
   sed 's/^-1 2 0$/-1 -2 0/' kept > two/2.cnf
   fails 1 '1: two/1.drat is rejected' pieces check eight.cnf two 1
   fails 1 '2: two/2.drat is rejected' pieces check eight.cnf two 2
@@ -243,7 +251,8 @@ case_unasked() {
   faults "older cannot be asked for ran/2.drat$why" pieces run eight.cnf eight.drat ran --lemmas 1 --memory
 }
 
-# A receipt that was cut off in copying is named, and the next run replaces it. What no receipt begins with stays.
+# A receipt that was cut off in copying is named, and the next run replaces it. What no receipt
+# begins with stays.
 case_cut_off() {
   cp two/1.receipt carries
   cp two/2.receipt refuted
@@ -308,7 +317,8 @@ case_standard_output() {
   faults 'standard output is closed' bash -c 'pieces report eight.cnf two >&-'
 }
 
-# lies WHAT: in the folder `liar` one thing is not of this proof, and nothing may be told of all pieces
+# lies WHAT: in the folder `liar` one thing is not of this proof, and nothing may be told of all
+# pieces
 lies() {
   local status=0 said
   said=$(pieces report eight.cnf liar 2>&1) || status=$?

@@ -1,6 +1,7 @@
 #!/usr/bin/env bash
-# A DRAT proof that is cut and checked at once, by `pieces run`: many pieces at a time, or the last one first; pieces that wait; files that are packed,
-# written over or no DRAT; and checkers that end otherwise than they should.
+# A DRAT proof that is cut and checked at once, by `pieces run`: many pieces at a time, or the last
+# one first; pieces that wait; files that are packed, written over or no DRAT; and checkers that end
+# otherwise than they should.
 set -euo pipefail
 . "$(dirname "$0")/lib.sh"
 # shellcheck source=SCRIPTDIR/pieces/setup.sh
@@ -42,7 +43,8 @@ case_verbose() {
   fails 0 '1: verified' python3 -c 'import pty, sys; sys.exit(pty.spawn(sys.argv[1:]) >> 8)' pieces run eight.cnf eight.drat ran --lemmas 1
 }
 
-# asks LEAST MOST COMMAND..: with these words the cutter is asked for so many lemmas a piece; for none where LEAST is -
+# asks LEAST MOST COMMAND..: with these words the cutter is asked for so many lemmas a piece; for
+# none where LEAST is -
 asks() {
   rm -f asked
   DRAT_CUT=asked_cut "${@:3}" > said 2> err || true
@@ -53,8 +55,9 @@ asks() {
   fi
 }
 
-# The pieces are a multiple of the jobs, near to 20000 lemmas, by the size of the proof: here of 80000 lemmas, at the end of which only
-# deletions follow, and in the binary form 40000. One of few lemmas is not cut further.
+# The pieces are a multiple of the jobs, near to 20000 lemmas, by the size of the proof: here of
+# 80000 lemmas, at the end of which only deletions follow, and in the binary form 40000. One of few
+# lemmas is not cut further.
 case_count() {
   solver asked_cut <<< "echo \"\$*\" > $work/asked; exit 1"
   { yes '1 2 0' | head -n 80000; yes 'd 1 2 0' | head -n 300000; } > long.drat || true
@@ -80,8 +83,8 @@ case_jobs() {
   holds order $'begin\nend\nbegin\nend'
 }
 
-# The last piece first: each shows what the one behind it has used, and no more. A lemma that is wrong and that no piece needs is rejected
-# where all that lives is shown.
+# The last piece first: each shows what the one behind it has used, and no more. A lemma that is
+# wrong and that no piece needs is rejected where all that lives is shown.
 case_memory() {
   says 0 "$whole" pieces run eight.cnf eight.drat last --lemmas 1 --memory
   says 0 $'1.receipt\n2.receipt\ncount\ncut' ls last
@@ -96,7 +99,8 @@ case_memory() {
   says 2 'cannot open none.cnf: No such file or directory' pieces run none.cnf eight.drat last --memory
 }
 
-# What is no whole list of clauses is not taken for what a piece has used, whatever the checker says of it.
+# What is no whole list of clauses is not taken for what a piece has used, whatever the checker says
+# of it.
 case_cores() {
   for damage in '$d' '1s/ [0-9]*$/ 1000/' '$s/ 0$//' 1d; do
     printf '%s\n' '#!/bin/sh' 'drat_check "$@" || exit' 'for core; do :; done' "sed -i '$damage' \"\$core\"" > bin/cuts_off
@@ -108,7 +112,8 @@ case_cores() {
   DRAT_CHECK=cuts_off fails 1 'the clauses that it used are not whole' pieces run eight.cnf eight.drat last --lemmas 1 --memory
 }
 
-# Of clauses that stand twice the core has one, and the steps delete one: so a piece is checked anew over all that lived before it.
+# Of clauses that stand twice the core has one, and the steps delete one: so a piece is checked anew
+# over all that lived before it.
 case_twice() {
   printf '1 2 0\n1 2 0\n1 -2 0\n-1 2 0\n-1 -2 0\n' > twice.cnf
   printf '5 1 2 0\n6 1 2 0\n7 1 2 0\nd 7 1 2 0\n8 1 2 0\n9 1 2 0\n10 1 2 0\nd 1 2 0\n1 0\n0\n' > twice.drat
@@ -121,7 +126,8 @@ case_twice() {
   says 0 $'1.receipt\n2.receipt\n3.receipt\ncount\ncut' ls twice
 }
 
-# No input is written over, by whatever name; a record is no other file; and a file named - is a file where a formula is named.
+# No input is written over, by whatever name; a record is no other file; and a file named - is a
+# file where a formula is named.
 case_overwrites() {
   python3 -B "$top/tests/pieces/overwrites.py" pieces || wrong=1
   mkdir own
@@ -159,9 +165,9 @@ case_frat() {
   says 0 2 cat two/count
 }
 
-# Packed files, by each packer that is there: records are of what was unpacked, one that is cut off at its end is named, and there is no
-# verdict, also where what is cut off is behind the last step that is needed. None of the packers is needed but zstd, which is named where it
-# is missing.
+# Packed files, by each packer that is there: records are of what was unpacked, one that is cut off
+# at its end is named, and there is no verdict, also where what is cut off is behind the last step
+# that is needed. None of the packers is needed but zstd, which is named where it is missing.
 case_packed() {
   mkdir lean
   ln -s "$(python3 -c 'import sys; print(sys.executable)')" lean/python3
@@ -224,7 +230,8 @@ case_packed() {
   fi
 }
 
-# A proof with witnesses, in pieces: pigeons exchange their holes, and what says so is deleted once a pigeon has left the last hole.
+# A proof with witnesses, in pieces: pigeons exchange their holes, and what says so is deleted once
+# a pigeon has left the last hole.
 case_exchanges() {
   python3 -B "$top/tests/drat/formulas.py" pigeons 6 > pigeons.cnf
   python3 -B "$top/tests/drat/formulas.py" exchanges 6 |
@@ -249,8 +256,9 @@ case_definitions() {
   fi
 }
 
-# With the last piece first an interrupted run goes on: what is verified stays so where the clauses before it are those that it has used, and a
-# damage to clauses between two pieces is rejected by one of them. Of another proof or formula, or cut by other options, nothing is kept.
+# With the last piece first an interrupted run goes on: what is verified stays so where the clauses
+# before it are those that it has used, and a damage to clauses between two pieces is rejected by
+# one of them. Of another proof or formula, or cut by other options, nothing is kept.
 case_goes_on() {
   solver stops << END
 case \$1 in last/\$(cat $work/stop).cnf) exit 9 ;; esac
@@ -320,7 +328,8 @@ END
   fails 1 'is rejected' pieces run formula.cnf eight.drat last --lemmas 50 --live 100000 --memory
 }
 
-# Where pieces wait, no more of the proof is under way than three portions of 4 kB: what is handed on, in the pipe, and in the cutter.
+# Where pieces wait, no more of the proof is under way than three portions of 4 kB: what is handed
+# on, in the pipe, and in the cutter.
 case_waiting() {
   python3 -B "$top/tests/drat/formulas.py" pigeons 20 > twenty.cnf
   python3 -B "$top/tests/drat/formulas.py" extended 20 > twenty.drat
@@ -334,7 +343,8 @@ exec drat_check "\$@"
 END
   rm -f waiting
   DRAT_CHECK=slow_check fails 0 's VERIFIED UNSAT BY ' pieces run twenty.cnf twenty.drat twenty "${lengths[@]}" --jobs 1 --ahead 1
-  # (one is checked and one waits; the first byte of what is under way may end a piece, and each further one has as many bytes as the smallest)
+  # (one is checked and one waits; the first byte of what is under way may end a piece, and each
+  # further one has as many bytes as the smallest)
   most=$((1 + 1 + 1 + 3 * 4096 / smallest))
   if (($(cat twenty/count) < 80 || $(sort -n waiting | tail -n 1) > most)); then
     printf '%d pieces, of which so many were there, at most %d: %s\n' "$(cat twenty/count)" "$most" "$(tr '\n' ' ' < waiting)"

@@ -1,11 +1,13 @@
 #!/usr/bin/env bash
-# Pieces of a proof while a solver writes it, by `checked --while`, and of solvers' proofs: where cadical is there, the commands of docs/SCALE.md.
+# Pieces of a proof while a solver writes it, by `checked --while`, and of solvers' proofs: where
+# cadical is there, the commands of docs/SCALE.md.
 set -euo pipefail
 . "$(dirname "$0")/lib.sh"
 # shellcheck source=SCRIPTDIR/pieces/setup.sh
 . "$top/tests/pieces/setup.sh"
 
-# As `checked --while` has it: right and wrong answers of solvers that are written here, and nothing is left.
+# As `checked --while` has it: right and wrong answers of solvers that are written here, and nothing
+# is left.
 case_while() {
   solver refuter <<< "cat '$work/eight.drat' > \"\$2\"; exit 20"
   solver weak <<< "cat '$work/weak.drat' > \"\$2\"; exit 20"

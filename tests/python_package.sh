@@ -1,5 +1,6 @@
 #!/usr/bin/env bash
-# The package `lib/cefindrato`, which the scripts of tools/ share: its parts alone, and that mypy finds types in all of it.
+# The package `lib/cefindrato`, which the scripts of tools/ share: its parts alone, and that mypy
+# finds types in all of it.
 # needs: lib
 set -euo pipefail
 . "$(dirname "$0")/lib.sh"

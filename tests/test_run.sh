@@ -1,86 +1,12 @@
 #!/usr/bin/env bash
-# How ./test.sh runs scripts (tests/run): what fails makes it fail, also where nothing can be written; what was not tried is told and leaves
-# no note; a script runs again where something changed that it depends on, and else not. And that lists which become empty are noticed,
-# that the keys of cheap scripts have all files that these open, and that each tool that not every machine has may be missing.
-# needs: test.sh tests/run tests/figures.sh tests/figures.txt tests/weak_edits.sh tests/layout.sh .shellcheckrc tests/records.sh
-# needs: tests/proof_picture.sh tests/prove_and_run.sh tests/memory.sh tests/solver_runs.sh tests/verified.sh
+# How ./test.sh runs scripts (tests/run): what fails makes it fail, also where nothing can be
+# written; what was not tried is told and leaves no note; a script runs again where something
+# changed that it depends on, and else not. And what tests/lib.sh has to compare with.
+# needs: test.sh tests/run
 set -euo pipefail
 . "$(dirname "$0")/lib.sh"
-tree=$work/tree told=$work/told passed=$work/passed
-mkdir -p "$passed" "$tree"/{tests/{run,good,data},tools,docs,crates/{app,other}_main/out}
-cp "$top"/tests/run/* "$tree/tests/run"
-cp "$top/tests/lib.sh" "$tree/tests"
-cd "$tree"
-# scripts of some seconds, of which the latter need programs
-cheap=(records proof_picture prove_and_run)
-with_programs=(memory solver_runs verified)
-
-# write NAME: the script tests/NAME.sh, of these lines
-write() {
-  { echo '#!/usr/bin/env bash' && cat; } > "tests/$1.sh"
-  chmod +x "tests/$1.sh"
-}
-write good << 'END_OF_SCRIPT'
-# README.md is named by a comment alone, and docs/B.md too
-set -euo pipefail
-. "$(dirname "$0")/lib.sh"
-on_path app tool
-python3 -B "$top/tests/good/first.py" "$top/tests/data/in"* < "$top/docs/A.md"
-# needs: crates/low
-END_OF_SCRIPT
-mkdir -p crates/low/{src,proofs}
-echo 'import second' > tests/good/first.py
-touch tests/good/second.py tests/data/{input,other} docs/{A,B}.md README.md crates/low/{src/lib.rt,proofs/Proof.antt}
-for name in crates/app_main/out/app_main crates/other_main/out/other_main tools/tool; do
-  printf '#!/bin/sh\n' > "$name"
-  chmod +x "$name"
-done
-echo /crates/*/out > .gitignore
-git init -q
-git add .
-
-# runs STATUS SCRIPT..: these end so, all together; what is told is in `said`
-runs() {
-  local status=0
-  rm -rf "$told"
-  mkdir "$told"
-  driven "${@:2}" > "$work/said" 2>&1 || status=$?
-  if [[ $status != "$1" ]]; then
-    fault "${*:2}: status $status, not $1"
-    cat "$work/said"
-  fi
-}
-driven() {
-  # shellcheck disable=SC2016 # for the other shell
-  told=$told passed=$passed archive=$work/archive waiting=last \
-    bash -c 'set -euo pipefail; . tests/run/scripts.sh; run_scripts 3 "$@"' - "$@"
-}
-
-# tells LINE..: these are among the lines that were told
-tells() {
-  local line
-  for line; do
-    grep -qxF -e "$line" "$work/said" || {
-      fault "it does not tell '$line':"
-      cat "$work/said"
-    }
-  done
-}
-
-# ends STATUS WHAT COMMAND..: the call ends so, or with 77 in place of 0; what it says is in `said`
-ends() {
-  local status=0
-  "${@:3}" > "$work/said" 2>&1 || status=$?
-  if [[ $status != "$1" && "$1 $status" != '0 77' ]]; then
-    fault "$2: status $status, not $1:"
-    tail -n 20 "$work/said"
-  fi
-}
-
-# noted NAME ..: the scripts that are noted
-noted() {
-  same 'what is noted' "$*" "$(find "$passed" -mindepth 1 -printf '%f\n' | cut -d . -f 1 | sort | paste -s -d ' ')"
-}
+# shellcheck source=SCRIPTDIR/test_run/setup.sh
+. "$top/tests/test_run/setup.sh"
 
 case_failures() {
   write bad <<< 'echo broken; exit 3'
@@ -171,6 +97,7 @@ again() {
   runs 0 good
   tells 'tests/good.sh has passed on this machine over the same files'
 }
+
 at_once() {
   runs 0 good
   if ! grep -q 'has passed' "$work/said"; then
@@ -230,155 +157,6 @@ case_archive() {
   runs 1 last library
 }
 
-# copied: into a copy of what is counted
-copied() {
-  mkdir copy
-  (cd "$top" && tar -c --exclude=./.git --exclude=out ./test.sh ./tests ./crates/*/{wrong-bodies,must-fail} ./crates/{check_vectors,definition_rows}) \
-    2> "$work/null" | tar -x -C copy || true
-  cd copy
-  # (not all scripts are there)
-  tests/figures.sh --write > "$work/said"
-}
-
-# counts STATUS WHAT LINE..
-counts() {
-  local status=0
-  tests/figures.sh > "$work/said" 2>&1 || status=$?
-  same "$2: status" "$1" "$status"
-  tells "${@:3}"
-}
-
-case_figures() {
-  copied
-  counts 0 'as it is'
-  cp -r . ../whole
-  sed -i '/^[^#]/d' tests/wrong_bodies/always.txt
-  counts 1 'an emptied list' 'none: wrong bodies of each run'
-  cp ../whole/tests/wrong_bodies/always.txt tests/wrong_bodies/
-  status=0
-  : > crates/command/wrong-bodies/wrong-bodies.txt
-  counts 1 'an emptied list of a crate' 'none: wrong bodies, command'
-  tests/figures.sh --write > "$work/said" || status=$?
-  same 'the status of --write over an emptied list' 1 "$status"
-  cp ../whole/tests/figures.txt tests/
-  rm -r crates/command/wrong-bodies
-  counts 1 'a list that is gone' "fewer: wrong bodies, command, 0 for $(sed -n 's/^wrong bodies, command: //p' tests/figures.txt)"
-  cp -r ../whole/crates/command/wrong-bodies crates/command/
-  sed -i '0,/^=> /s//# /' tests/rows/lrat_check.rows
-  counts 1 'a row less'
-  cp ../whole/tests/rows/lrat_check.rows tests/rows/
-  printf 'case_more() {\n' >> tests/rows.sh
-  counts 1 'a case more' 'more: cases, rows.sh, 1 for 0'
-  tests/figures.sh --write > "$work/said"
-  counts 0 'a case more that is written'
-  sed -i 's/^scripts=(library/scripts=(/' test.sh
-  counts 1 'a script less'
-}
-
-# one_more WHAT: the line that tells it
-one_more() {
-  local number
-  number=$(sed -n "s/^$1: //p" tests/figures.txt)
-  echo "more: $1, $((number + 1)) for $number"
-}
-
-case_sizes() {
-  copied
-  printf '# %s\n' {1..401} > tests/long.sh
-  counts 1 'a script that is too long' "$(one_more 'scripts above 400 lines')"
-  { echo 'long() {' && printf '  : %s\n' {1..41} && echo '}' && printf '# %99s\n' wide; } > tests/long.sh
-  counts 1 'a long function, and a wide line' \
-    "$(one_more 'functions of scripts above 40 lines')" "$(one_more 'lines of scripts above 100 columns')"
-}
-
-# What reads a list fails over an empty one.
-case_empty() {
-  mkdir -p empty/tests
-  cp "$top"/tests/{lib,weak_edits,layout}.sh empty/tests
-  cd empty
-  git init -q
-  : > gate
-  ends 1 "tests/weak_edits.sh" tests/weak_edits.sh gate
-  echo '12 passed, 1 failed' > gate
-  ends 1 "tests/weak_edits.sh" tests/weak_edits.sh gate
-  echo '0 passed, 0 failed' > gate
-  ends 1 "tests/weak_edits.sh" tests/weak_edits.sh gate
-  echo '12 passed, 0 failed' > gate
-  ends 0 "tests/weak_edits.sh" tests/weak_edits.sh gate
-  printf 'rt: must-fail one: BAD EDIT\n12 passed, 0 failed\n' > gate
-  ends 1 "tests/weak_edits.sh" tests/weak_edits.sh gate
-  ends 1 "no sources" tests/layout.sh --case sources
-  mkdir -p crates/low/src
-  echo '//! Low.' > crates/low/src/lib.rt
-  git add .
-  ends 0 "one source" tests/layout.sh --case sources
-}
-
-# Scripts without an ending are looked at too, and where there are none, that is a fault.
-case_linters() {
-  only_with shellcheck pyflakes3
-  mkdir -p linted/{tests,tools}
-  cp "$top"/tests/{lib,layout}.sh linted/tests
-  cp "$top/.shellcheckrc" linted
-  cd linted
-  git init -q
-  ends 1 "no script in Python" tests/layout.sh --case python
-  printf '#!/usr/bin/env python3\nprint()\n' > tools/one
-  ends 0 "a script in Python" tests/layout.sh --case python
-  printf '#!/usr/bin/env python3\nimport os\n' > tools/one
-  ends 1 "an import that nothing uses" tests/layout.sh --case python
-  printf '#!/bin/sh\necho "$1"\n' > tools/one
-  ends 0 "a script of the shell" tests/layout.sh --case shell
-  printf '#!/bin/sh\nlocal one\n' > tools/one
-  ends 1 "a word that not each shell has" tests/layout.sh --case shell
-}
-
-# What cheap scripts open and run of the repository is in their keys.
-case_opened() {
-  only_with strace
-  if [[ -x $top/crates/drat_check_main/out/drat_check_main ]]; then
-    cheap+=("${with_programs[@]}")
-  else
-    not_tried 'no programs are built'
-  fi
-  for name in "${cheap[@]}"; do
-    ends 0 "$name" strace -f --seccomp-bpf -y -qq -e trace=open,openat,execve -o "$work/trace" "$top/tests/$name.sh"
-    {
-      sed -n "s|.* = [0-9]*<$top/\([^>]*\)>.*|\1|p" "$work/trace"
-      sed -n 's|.*execve("\(/[^"]*\)".* = 0$|\1|p' "$work/trace" | { xargs -r realpath -q || true; } | sed -n "s|^$top/||p"
-    } | sort -u > "$work/opened"
-    same "what tests/$name.sh opens and its key has not" '' \
-      "$(cd "$top" && comm -23 "$work/opened" <(python3 -B tests/run/keys.py --files "$name" | sort) | grep -vE '^\.git(/|$)' |
-        while read -r file; do [[ ! -f $file ]] || echo "$file"; done)"
-    grep -qx "tests/$name.sh" "$work/opened" || fault "tests/$name.sh does not open itself"
-  done
-}
-
-# Cheap scripts where the path has only what each machine has; and where one command is missing that is here and that they ask for.
-case_missing() {
-  mkdir "$work/base" "$work/all"
-  while read -r name; do
-    path=$(type -P "$name") || untried "$name is not installed, which each machine has"
-    ln -s "$path" "$work/base/$name"
-  done < <(grep -v '^#' "$top/tests/run/base.txt")
-  IFS=: read -r -a folders <<< "$PATH"
-  for folder in "${folders[@]}"; do
-    ln -s "$folder"/* "$work/all/" 2> "$work/null" || true
-  done
-  for name in "${cheap[@]}"; do
-    ends 0 "$name with what each machine has" env PATH="$work/base" "$top/tests/$name.sh"
-    sed '/^ *#/d' "$top/tests/$name.sh" > "$work/code"
-    while read -r command _; do
-      if [[ -e $work/all/$command ]] && grep -qw -e "$command" "$work/code"; then
-        mv "$work/all/$command" "$work/hidden"
-        ends 77 "$name without $command" env PATH="$work/all" "$top/tests/$name.sh"
-        grep -q "^$command is not installed .*: not tried$" "$work/said" || fault "$name does not say that $command is missing"
-        mv "$work/hidden" "$work/all/$command"
-      fi
-    done < <(grep -v '^#' "$top/tests/run/optional.txt")
-  done
-}
-
 # What tests/lib.sh has to compare with: each passes where it should, and is a fault where anything differs.
 case_comparisons() {
   speak() {
@@ -411,40 +189,6 @@ case_comparisons() {
   compared 1 faults one speak 2 '' $'this one\nmore\n'
   compared 0 holds two $'a\nb'
   compared 1 holds two a
-}
-
-# What a script calls that not each machine has stands behind a question for it.
-case_guards() {
-  # (indented, since these are no cases of this script)
-  sed 's/^  //' > calls.sh << 'END_OF_SCRIPT'
-  only_with yosys
-  said=$(valgrind true)
-  run() {
-    timeout 9 cadical x
-  }
-  case_one() {
-    c++ -c x.cpp
-    only_with c++ gcc
-    if gcc x.c; then yosys; fi
-  }
-  case_two() {
-    for name in picosat z3; do
-      has "$name" || continue
-      "$name"
-    done
-    has clasp && clasp x
-    # node is called
-    echo 'node' "node node"
-    picosat x | z3
-    ! minisat x
-    echo 'z3: not tried'
-  }
-END_OF_SCRIPT
-  same 'calls without a question' 'case_one calls c++
-case_two calls minisat
-it says itself that something is not tried
-outside of functions calls valgrind
-run calls cadical' "$(python3 -B "$top/tests/run/guards.py" calls.sh | sed 's/^calls.sh: //; s/, which.*//' | sort)"
 }
 
 try_cases

@@ -1,6 +1,7 @@
 # shellcheck shell=bash disable=SC2034,SC2154
-# What the tests of pieces share: helpers, a small formula with its proof, which is cut into two pieces that are verified, and a larger one.
-# Operands are COUNT [SEED], of random proofs. The programs must be built: `rt ci` does it, or `rt run` in their folders.
+# What the tests of pieces share: helpers, a small formula with its proof, which is cut into two
+# pieces that are verified, and a larger one. Operands are COUNT [SEED], of random proofs. The
+# programs must be built: `rt ci` does it, or `rt run` in their folders.
 on_path drat_cut drat_check lrat_check model_check join_check pieces checked
 mkdir "$work/room"
 export TMPDIR=$work/room
@@ -34,8 +35,9 @@ solver() {
   chmod +x "bin/$1"
 }
 
-# All clauses over three variables, and a tautology; they are resolved pair by pair, and what was resolved is deleted. A deletion of
-# what is not there takes no effect, nor does a lemma that is a tautology; a literal that comes again is written once.
+# All clauses over three variables, and a tautology; they are resolved pair by pair, and what was
+# resolved is deleted. A deletion of what is not there takes no effect, nor does a lemma that is a
+# tautology; a literal that comes again is written once.
 printf 'c eight\np cnf 3 9\n1 2 3 0\n1 2 -3 0\n1 -2 3 0\n1 -2 -3 0\n-1 2 3 0\n-1 2 -3 0\n-1 -2 3 0\n-1 -2 -3 0\n1 -1 0\n' > eight.cnf
 cat > eight.drat << 'END'
 1 2 0

@@ -1,12 +1,14 @@
 # shellcheck shell=bash
-# How ./test.sh runs scripts: side by side, each at once where it has passed on this machine already, by a note that its key names.
+# How ./test.sh runs scripts: side by side, each at once where it has passed on this machine
+# already, by a note that its key names.
 #
-# It has `told`, a folder for what this run tells; `passed`, the folder of notes; `archive`, which the script `library` makes and `waiting`
-# want; and it works in the folder of the repository. A failure is an exit status, here and of what is called here: what is written into
-# files is for reading alone, and where it can't be written that is a failure too.
+# It has `told`, a folder for what this run tells; `passed`, the folder of notes; `archive`, which
+# the script `library` makes and `waiting` want; and it works in the folder of the repository. A
+# failure is an exit status, here and of what is called here: what is written into files is for
+# reading alone, and where it can't be written that is a failure too.
 
-# run_scripts LANES LINE..: each line is a script and its words. What was not tried, and what failed, is told at the end. It fails if a
-# script does.
+# run_scripts LANES LINE..: each line is a script and its words. What was not tried, and what
+# failed, is told at the end. It fails if a script does.
 run_scripts() {
   local status=0
   describe_machine || return 1
@@ -59,7 +61,8 @@ run() {
   return "$status"
 }
 
-# run_or_pass SCRIPT [WORD ..]: it is not run where it has passed. `rt ci` takes the archive away: what is noted of `library` is a copy of it.
+# run_or_pass SCRIPT [WORD ..]: it is not run where it has passed. `rt ci` takes the archive away:
+# what is noted of `library` is a copy of it.
 run_or_pass() {
   local key
   if [[ " $waiting " == *" $1 "* ]]; then
@@ -106,7 +109,8 @@ note() {
   fi
 }
 
-# tell_end LINE..: what was not tried, and what failed, with its last lines. It fails if a script has not ended well.
+# tell_end LINE..: what was not tried, and what failed, with its last lines. It fails if a script
+# has not ended well.
 tell_end() {
   local line name status failed=0
   for line in "$@"; do
