@@ -59,3 +59,16 @@ solver finder
 checker model_check
 solver cadical
 checker lrat_check' "$(cat measured)"
+
+# a signal while a program runs whose outputs are in files: the reason is seen, and the line of JSON
+printf '#!/bin/sh\nexec sleep 60\n' > stuck
+chmod +x stuck
+printf 'aig 2 1 0 1 1\n4\n\1\1' > never.aig
+over limit 'there is no verdict after 2 seconds' \
+  env MODEL_CHECK=./stuck checked --json --limit 2 finder other.cnf
+over limit 'there is no verdict after 2 seconds' \
+  env DRAT_CHECK=./stuck checked --json --limit 2 refuter four.cnf
+over limit 'there is no verdict after 2 seconds' \
+  env CIRCUIT_CHECK=./stuck checked --json --limit 2 --never refuter never.aig
+over limit 'there is no verdict after 2 seconds' \
+  env MINIMAL_CHECK=./stuck checked --json --limit 2 --minimal refuter four.cnf
