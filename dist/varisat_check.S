@@ -26311,8 +26311,8 @@ rattle_main:
 .balign 8
 .L33ae5cc3:
 .quad .L33ae5cc3+16
-.quad 0x1a,0x632820302e342e30,0x33352074696d6d6f,0x3965623835353861
-.quad 0x2966
+.quad 0x1a,0x632820302e342e30,0x33372074696d6d6f,0x3535326434316230
+.quad 0x2938
 .section ".rodata..Lstatic.102","a",@progbits
 .Lfc961dd7:
 .byte 0xd
