@@ -49,7 +49,7 @@ misjudged() {
   wrong=1
 }
 
-want='^((Error in proof processor|formula|wanted clauses|proof|answer|claims|models|circuit|second circuit|stimulus|error writing): )?out of memory$'
+want='^((Error in proof processor|formula|wanted clauses|proof|answer|claims|models|circuit|second circuit|names|stimulus|error writing): )?out of memory$'
 # wants_memory: whether a line of the errors says so
 wants_memory() {
   local line
