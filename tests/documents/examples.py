@@ -47,7 +47,7 @@ exit 20
 
 
 # Two circuits of one gate, which are equal, and a proof that they are.
-CIRCUIT = b"aig 3 2 0 1 1\n6\n\x02\x02"
+CIRCUIT = b"aig 3 2 0 1 1\n6\n\x02\x02i0 a\ni1 b\no0 y\n"
 # A latch that keeps its 0, and the circuit that says so.
 MACHINE = b"aig 1 0 1 1 0\n2\n2\n"
 INVARIANT = b"aig 1 1 0 1 0\n3\n"
