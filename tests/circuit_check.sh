@@ -75,14 +75,18 @@ case_by_name() {
 # Nothing is claimed of circuits without outputs.
 case_no_outputs() {
   printf 'aig 0 0 0 0 0\n' > none.aig
+  rm -f formula
   for option in '--proof /dev/null' '--answer answer' '--formula formula'; do
-    echo 's SATISFIABLE' > answer
+    printf 's SATISFIABLE\nv 0\n' > answer
     # shellcheck disable=SC2086 # several words
     {
       said 1 'the circuits have no outputs' never none.aig $option
       said 1 'the circuits have no outputs' same none.aig none.aig $option --by-position
     }
   done
+  if [[ -e formula ]]; then
+    fault 'a formula of circuits without outputs'
+  fi
 }
 
 # A formula that is not whole has no name.
@@ -92,22 +96,6 @@ case_cut_off() {
   if "$check" never cut.aig --formula formula > said 2> err || [[ $(cat formula) != kept ]]; then
     fault "the formula of a circuit that is cut off: $(cat said err formula)"
   fi
-}
-
-# Nothing is claimed of circuits without outputs.
-case_no_outputs() {
-  printf 'aig 0 0 0 0 0\n' > none.aig
-  echo 's SATISFIABLE' > answer
-  for claim in 'never none.aig' 'same none.aig none.aig'; do
-    for option in '--proof /dev/null' '--answer answer' '--formula formula'; do
-      status=0
-      # shellcheck disable=SC2086 # several words
-      "$check" $claim $option > said 2> err || status=$?
-      if [[ $status$(cat said err) != '1the circuits have no outputs' || -e formula ]]; then
-        fault "$claim $option: status $status, $(cat said err)"
-      fi
-    done
-  done
 }
 
 # An answer is not a proof, and of a machine there is none; circuits that are compared have as many inputs and outputs.
@@ -133,13 +121,13 @@ case_answers() {
   ends 2 '--init-proof, --step-proof and --bad-proof, or --init-formula, --step-formula and --bad-formula' \
     "$check" safe one.aig two.aig --answer answer
   ends 1 'a circuit with latches, bad state properties or invariant constraints' "$check" never latch.aig --answer answer
-  ends 1 'a circuit with latches, bad state properties or invariant constraints' "$check" same one.aig latch.aig --answer answer
+  ends 1 'a circuit with latches, bad state properties or invariant constraints' "$check" same one.aig latch.aig --answer answer --by-position
   for option in '--answer answer' '--formula formula' '--proof proof'; do
     # shellcheck disable=SC2086 # several words
     {
-      ends 1 'the circuits have different numbers of inputs' "$check" same one.aig input.aig $option
-      ends 1 'the circuits have different numbers of outputs' "$check" same one.aig outputs.aig $option
-      ends 1 'the circuits have different numbers of outputs' "$check" same outputs.aig one.aig $option
+      ends 1 'the circuits have different numbers of inputs' "$check" same one.aig input.aig $option --by-position
+      ends 1 'the circuits have different numbers of outputs' "$check" same one.aig outputs.aig $option --by-position
+      ends 1 'the circuits have different numbers of outputs' "$check" same outputs.aig one.aig $option --by-position
     }
   done
   ends 2 'cannot open absent' "$check" never one.aig --answer absent
