@@ -122,12 +122,13 @@ case_answers() {
     "$check" safe one.aig two.aig --answer answer
   ends 1 'a circuit with latches, bad state properties or invariant constraints' "$check" never latch.aig --answer answer
   ends 1 'a circuit with latches, bad state properties or invariant constraints' "$check" same one.aig latch.aig --answer answer --by-position
-  for option in '--answer answer' '--formula formula' '--proof proof'; do
+  for option in answer formula proof; do
+    option="--by-position --$option $option"
     # shellcheck disable=SC2086 # several words
     {
-      ends 1 'the circuits have different numbers of inputs' "$check" same one.aig input.aig $option --by-position
-      ends 1 'the circuits have different numbers of outputs' "$check" same one.aig outputs.aig $option --by-position
-      ends 1 'the circuits have different numbers of outputs' "$check" same outputs.aig one.aig $option --by-position
+      ends 1 'the circuits have different numbers of inputs' "$check" same one.aig input.aig $option
+      ends 1 'the circuits have different numbers of outputs' "$check" same one.aig outputs.aig $option
+      ends 1 'the circuits have different numbers of outputs' "$check" same outputs.aig one.aig $option
     }
   done
   ends 2 'cannot open absent' "$check" never one.aig --answer absent
