@@ -226,7 +226,7 @@ case_build() {
   # (without programs elsewhere on the path)
   export PATH=$work/.python:/usr/bin:/bin
   says 20 's VERIFIED UNSAT' ../tools/checked ./solver four.cnf
-  says 0 '1 formula: 1 s VERIFIED UNSAT, 0 s VERIFIED SAT, 0 no answer, 0 rejected' ../tools/checked_all four.cnf --solver ./solver
+  says 0 '1 formula: 1 s VERIFIED UNSAT, 0 s VERIFIED SAT, 0 no answer, 0 not checked, 0 rejected, 0 malformed' ../tools/checked_all four.cnf --solver ./solver
   says 20 's VERIFIED UNSAT BY 1 RECEIPTS' ../tools/checked --while ./solver four.cnf
   says 0 's VERIFIED UNSAT BY 1 RECEIPTS' ../tools/pieces run four.cnf four.drat pieces
   printf '1 0\n-1 0\n' > cubes.txt
@@ -267,7 +267,7 @@ case_root() {
   install_block > "$root/clone/block"
   status=0
   said=$("${enter[@]}" bash -c 'cd /clone && . ./block' 2>&1) || status=$?
-  same "README's installation" "20 ${#names[@]} programs, commit ${commit:0:11}, and 8 scripts are in /home/.local/bin"$'\ns VERIFIED UNSAT' "$status $said"
+  same "README's installation" "20 ${#names[@]} programs, commit ${commit:0:11}, and 9 scripts are in /home/.local/bin"$'\ns VERIFIED UNSAT' "$status $said"
   same 'scripts and programs of one version' "${commit:0:11}" "$("${enter[@]}" bash -c 'for name in /home/.local/bin/*; do
       [ "${name##*/}" = verified ] || "$name" --version; done' | sed 's/.*(commit \(.*\))$/\1/' | sort -u)"
   same 'verdicts in a root of its own' "${verdicts//../}" "$("${enter[@]}" sh -c "cd /clone/files && sed 's|\.\./dist/||' calls | sh")"

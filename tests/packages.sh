@@ -78,7 +78,8 @@ verdicts() {
   done
 }
 right=$'s UNSATISFIABLE\n0\ns VERIFIED UNSAT\n0\n1\ns VERIFIED UNSAT\n20\n1'
-right+=$'\n1 formula: 1 s VERIFIED UNSAT, 0 s VERIFIED SAT, 0 no answer, 0 rejected\n0'
+right+=$'\n1 formula: 1 s VERIFIED UNSAT, 0 s VERIFIED SAT, 0 no answer, '
+right+=$'0 not checked, 0 rejected, 0 malformed\n0'
 
 place="$work/a checkout"
 checkout "$place"
